@@ -1,7 +1,13 @@
 // Refusals and the one fault type of every crate, numbers written behind a label, and the line of a refusal.
+pub mod lines;
+pub mod memory;
+pub mod numbers;
 pub mod refusal;
 pub mod report;
 
+pub use lines::refusal_line;
+pub use memory::write_over;
+pub use numbers::write_labelled;
 pub use refusal::Fault;
 pub use refusal::Layer;
 pub use refusal::Refusal;

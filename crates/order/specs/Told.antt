@@ -11,7 +11,7 @@ use Rattle.std.specs.declared.result.Result.the-variants.{Ok, Err}
 use Rattle.fault.specs.declared.refusal.Refusal.the-variants.{FileEndsEarly, FigureOutOfRange, FileGoesOn}
 use Rattle.fault.specs.declared.refusal.Fault.{Fault}
 use Rattle.fault.specs.Faults.{fault-at}
-use Rattle.order.specs.declared.figures.Figures.{Figures}
+use Rattle.order.specs.declared.head.Figures.{Figures}
 use Rattle.order.specs.Order.{Order, Figure, InRange, figures, spelt, bytes, Reads, GoodFile, Begins}
 
 -- the figures at the head of an order

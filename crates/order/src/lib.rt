@@ -1,6 +1,6 @@
 // The order file: checked, and its pieces put on a page.
-pub mod check;
-pub mod figures;
+pub mod checking;
+pub mod head;
 
-pub use check::check;
-pub use figures::Figures;
+pub use checking::check;
+pub use head::Figures;
