@@ -6,6 +6,7 @@ pub mod refusal;
 pub mod report;
 
 pub use lines::refusal_line;
+pub use memory::has_room;
 pub use memory::write_over;
 pub use numbers::write_labelled;
 pub use refusal::Fault;

@@ -48,16 +48,13 @@ widths-there (suc n) next file at small enough =
 
 pub widths-short : (n : ℕ) (next : Format) (file : List ℕ) (at : ℕ) → ((i : ℕ) → Fits w8 (getD file i 0)) → length file - at < n → run (widths n next) file at ≡ Err (fault-at FileEndsEarly (length file))
 widths-short zero next file at small short = absurd (omega arith)
-widths-short (suc n) next file at small short = ⊎-elim there gone (cases-lt at (length file))
-  where
-    rest : ℕ → Result Figures Fault
-    rest v = run (widths n next) file (at + 1)
-    there : at < length file → then (figure-at byte 0 255 file at) rest ≡ Err (fault-at FileEndsEarly (length file))
-    there h =
-        let d = due-good byte 0 255 file at (omega arith) (omega arith) (omega (arith, small at .fits)) in
-        goes rest d ∙ widths-short n next file (at + 1) small (omega arith)
-    gone : length file ≤ at → then (figure-at byte 0 255 file at) rest ≡ Err (fault-at FileEndsEarly (length file))
-    gone h = stops rest (due-early byte 0 255 file at (omega arith))
+widths-short (suc n) next file at small short =
+    ⊎-elim
+    (λ h.
+      let d = due-good byte 0 255 file at (omega arith) (omega arith) (omega (arith, small at .fits)) in
+      goes (λ v. run (widths n next) file (at + 1)) d ∙ widths-short n next file (at + 1) small (omega arith))
+    (λ h. stops (λ v. run (widths n next) file (at + 1)) (due-early byte 0 255 file at (omega arith)))
+    (cases-lt at (length file))
 
 pub due-high : (size : Size) (low high : ℕ) (file : List ℕ) (at k : ℕ) → Ok k ≡ figure-at size low high file at → k ≤ high
 due-high size low high file at k e = grind (arith, tells)

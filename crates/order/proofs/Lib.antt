@@ -1,1 +1,3 @@
 pub mod Due
+pub mod Follows
+pub mod Outcomes

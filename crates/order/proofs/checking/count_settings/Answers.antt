@@ -1,3 +1,4 @@
+use Prim.Native.Nat.{_+_}
 use native.Mathlib.Omega.{arith}
 use Rattle.std.proofs.shelf.Results.{err-from-errBy}
 use Rattle.order.specs.Order.{byte}
@@ -14,4 +15,4 @@ pub loop-i-again : need.loop-i-again
 loop-i-again c =
     let k = c .in-Continue-byte-figure .ensures tt in
     (omega (arith, due-high byte 1 8 (c .args .file .now) (5 + c .loop-i .i) (c .in-Continue-byte-figure .field-0) k),
-     λ next. counts-go (c .args .file .now) next (c .args .pieces) (c .loop-i .i) (c .loop-i .settings) _ (omega arith) (c .loop-i .inv .1 next) _ ?)
+     λ next. counts-go (c .args .file .now) next (c .args .pieces) (c .loop-i .i) (c .loop-i .settings) _ (omega arith) (c .loop-i .inv .1 next) _ (cc))

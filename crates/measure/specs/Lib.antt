@@ -1,0 +1,5 @@
+pub mod Measures
+pub mod Settings
+pub mod Products
+pub mod Filing
+pub mod Why
