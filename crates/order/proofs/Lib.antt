@@ -1,3 +1,5 @@
 pub mod Due
 pub mod Follows
 pub mod Outcomes
+pub mod Orders
+pub mod Settles

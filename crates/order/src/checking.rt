@@ -6,7 +6,7 @@ ghost use mathlib.Core.Path.{_≡_};
 ghost use Prim.Native.Nat.{ℕ, _+_};
 ghost use Rattle.order.specs.Format.{Format, then, «figure-at», run, «head-first», counts, widths, pairs};
 ghost use Rattle.order.specs.Order.{byte, pair};
-ghost use Rattle.order.specs.Told.{Settled};
+ghost use Rattle.order.specs.Told.{OneReading, Settled};
 
 // The byte at a place, from `low` to `high`.
 fn byte_figure(file: &[u8], at: usize, low: u8, high: u8) -> Result<u8, Fault>
@@ -93,4 +93,10 @@ pub fn check(file: &[u8]) -> Result<Figures, Fault>
         return Err(Fault::at(Refusal::FileGoesOn, end));
     }
     Ok(figures)
+}
+
+// A file has at most one reading as an order.
+pub fn one_reading()
+    ensures { λ _. ⌜ OneReading ⌝ }
+{
 }

@@ -1,1 +1,3 @@
 pub mod Tested
+pub mod Kept
+pub mod Placed

@@ -1,5 +1,6 @@
 // The record of a page, and the calls on it.
 pub mod opening;
+pub mod putting;
 
 ghost use Prim.Native.Nat.{ℕ, _^_, _<_, _≤_};
 ghost use Rattle.page.specs.Sound.{Here, Past};
