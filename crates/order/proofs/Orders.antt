@@ -225,9 +225,12 @@ head-figures d rest = due byte 1 12 (d .pieces) ∷ (due byte 1 24 (d .breadth) 
 abbrev headed : (pieces breadth gutter ceiling : ℕ) → Figures
 headed n b g c = record { pieces = n; breadth = b; gutter = g; ceiling = c }
 
--- what stands behind the head
+-- what stands behind the counts, and behind the head
+abbrev pub last-part : Figures → ℕ → Format
+last-part d n = widths n (pairs n (done d))
+
 abbrev pub behind : Figures → Format
-behind d = counts (d .pieces) 0 (λ n. widths n (pairs n (done d)))
+behind d = counts (d .pieces) 0 (last-part d)
 
 pub ordered : (figs : List Figure) (h : Figures) → Follows order-format figs h → Ordered figs h
 ordered figs h f =

@@ -2,7 +2,7 @@
 use mathlib.Core.Path.{_≡_, refl, sym, _∙_, ap, subst}
 use mathlib.Core.Logic.{_⊎_, inl, inr}
 use mathlib.Core.List.{List, [], _∷_, _++_}
-use Prim.Native.Nat.{ℕ, _≤_}
+use Prim.Native.Nat.{ℕ, _+_, _≤_}
 use native.Mathlib.Omega.{arith}
 use lib.ListN.{length, getD, take}
 use mir.Val.{Fits}
@@ -18,7 +18,7 @@ use Rattle.order.specs.Format.{order-format, run}
 use Rattle.order.specs.Told.{head, OutOfRange, Told, Settled, OneReading}
 use Rattle.order.proofs.Follows.{Follows, Spells, Misfit, Tells}
 use Rattle.order.proofs.Outcomes.{told, alone, one-path}
-use Rattle.order.proofs.Orders.{order-open, order-follows, in-range-all, Ordered, ordered, one-order}
+use Rattle.order.proofs.Orders.{order-open, order-follows, in-range-all, Ordered, ordered, one-order, last-part, behind}
 
 -- an order's bytes are what a path spells, and back
 spells : (w : List ℕ) (o : Order) → Reads w o → Spells order-format [] w (head o)
@@ -86,6 +86,10 @@ settles file small r e =
       told = from-tells file (run order-format file 0) (told order-format order-open file small 0 le);
       alone = λ s t. alone order-format order-open file small 0 le s (to-tells file s t);
     })
+
+-- a run that has come to the widths
+pub to-widths : (file : List ℕ) (h : Figures) (n k : ℕ) → run order-format file 0 ≡ run (behind h) file 5 → run (behind h) file 5 ≡ run (last-part h n) file (5 + h .pieces) → k ≡ h .pieces → run order-format file 0 ≡ run (last-part h n) file (5 + k)
+to-widths file h n k a b e = a ∙ (b ∙ ap (λ x. run (last-part h n) file (5 + x)) (sym e))
 
 pub one-reading : OneReading
 one-reading file o p r s =

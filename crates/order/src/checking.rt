@@ -4,7 +4,8 @@ use fault::Fault;
 use fault::Refusal;
 ghost use mathlib.Core.Path.{_≡_};
 ghost use Prim.Native.Nat.{ℕ, _+_};
-ghost use Rattle.order.specs.Format.{Format, then, «figure-at», run, «head-first», counts, widths, pairs};
+ghost use Rattle.std.specs.declared.result.Result.the-variants.{Ok};
+ghost use Rattle.order.specs.Format.{Format, done, then, «figure-at», run, «head-first», counts, widths, pairs};
 ghost use Rattle.order.specs.Order.{byte, pair};
 ghost use Rattle.order.specs.Told.{OneReading, Settled};
 
@@ -68,17 +69,34 @@ fn skip_widths(file: &[u8], from: usize, settings: usize) -> Result<usize, Fault
     Ok(from + settings)
 }
 
-// The place behind so many pairs of marks and depth.
+// The place behind the marks and the depth of one setting.
+fn check_pair(file: &[u8], at: usize) -> Result<usize, Fault>
+    ensures { λ r. ⌜ ((next : Format) → run (pairs 1 next) (now (file .entry)) at ≡ then r (λ to. run next (now (file .entry)) to)) ⌝ }
+{
+    pair_figure(file, at, 0, 1000)?;
+    pair_figure(file, at + 2, 1, 2000)?;
+    Ok(at + 2 + 2)
+}
+
+// The place behind the marks and depths of so many settings.
 fn check_pairs(file: &[u8], from: usize, settings: usize) -> Result<usize, Fault>
     ensures { λ r. ⌜ ((next : Format) → run (pairs settings next) (now (file .entry)) from ≡ then r (λ to. run next (now (file .entry)) to)) ⌝ }
 {
     let mut at = from;
     for _ in 0..settings {
-        pair_figure(file, at, 0, 1000)?;
-        pair_figure(file, at + 2, 1, 2000)?;
-        at += 4;
+        at = check_pair(file, at)?;
     }
     Ok(at)
+}
+
+// Refuses a file that goes on behind its last figure.
+fn check_end(file: &[u8], end: usize) -> Result<(), Fault>
+    ensures { λ r. ⌜ ((h : Figures) → run (done h) (now (file .entry)) end ≡ then r (λ _. Ok h)) ⌝ }
+{
+    if end < file.len() {
+        return Err(Fault::at(Refusal::FileGoesOn, end));
+    }
+    Ok(())
 }
 
 // The figures at the head of a good file, or the first fault in it.
@@ -89,9 +107,7 @@ pub fn check(file: &[u8]) -> Result<Figures, Fault>
     let settings = count_settings(file, figures.pieces)?;
     let start = skip_widths(file, 5 + usize::from(figures.pieces), settings)?;
     let end = check_pairs(file, start, settings)?;
-    if end < file.len() {
-        return Err(Fault::at(Refusal::FileGoesOn, end));
-    }
+    check_end(file, end)?;
     Ok(figures)
 }
 
