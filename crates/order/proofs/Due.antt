@@ -1,11 +1,9 @@
--- One figure that is due at a place, many widths, and one turn of each loop of a check.
+-- A figure that is due at a place, many widths, and one turn of each loop of a check.
 use mathlib.Core.Path.{_≡_, _∙_, ap, sym}
-use mathlib.Core.Bool.{cond}
 use mathlib.Core.Logic.{_⊎_, ⊎-elim}
 use mathlib.Core.List.{List}
 use Prim.Native.Nat.{ℕ, zero, suc, _+_, _-_, _≤_, _<_}
 use native.Mathlib.Omega.{arith}
-use lib.Dec.{leb}
 use lib.ListN.{length, getD}
 use mir.Val.{Fits}
 use mir.Syntax.{w8}
@@ -17,8 +15,8 @@ use Rattle.fault.specs.declared.refusal.Refusal.the-variants.{FileEndsEarly, Fi
 use Rattle.fault.specs.declared.refusal.Fault.{Fault}
 use Rattle.fault.specs.Faults.{fault-at}
 use Rattle.order.specs.declared.head.Figures.{Figures}
-use Rattle.order.specs.Order.{Size, byte, pair}
-use Rattle.order.specs.Format.{Format, then, taken, number-at, in-range, figure-at, run, counts, widths, pairs}
+use Rattle.order.specs.Order.{Size, byte}
+use Rattle.order.specs.Format.{Format, then, taken, number-at, figure-at, run, counts, widths, pairs}
 
 -- a figure that is there and in range, one that is out of range, and one that is not there
 module _ (size : Size) (low high : ℕ) (file : List ℕ) (at : ℕ) where
@@ -51,8 +49,8 @@ widths-short zero next file at small short = absurd (omega arith)
 widths-short (suc n) next file at small short =
     ⊎-elim
     (λ h.
-      let d = due-good byte 0 255 file at (omega arith) (omega arith) (omega (arith, small at .fits)) in
-      goes (λ v. run (widths n next) file (at + 1)) d ∙ widths-short n next file (at + 1) small (omega arith))
+    let d = due-good byte 0 255 file at (omega arith) (omega arith) (omega (arith, small at .fits)) in
+    goes (λ v. run (widths n next) file (at + 1)) d ∙ widths-short n next file (at + 1) small (omega arith))
     (λ h. stops (λ v. run (widths n next) file (at + 1)) (due-early byte 0 255 file at (omega arith)))
     (cases-lt at (length file))
 
@@ -75,28 +73,7 @@ module _ (file : List ℕ) (next : ℕ → Format) (pieces i total : ℕ) (all :
   counts-stop f e = counts-turn ∙ stops (λ k. run (counts (pieces - (i + 1)) (total + k) next) file ((5 + i) + 1)) (sym e)
 
 -- one turn over the pairs
-module _ (file : List ℕ) (next : Format) (settings i at : ℕ) (all : Result Figures Fault) (more : i < settings) (sofar : all ≡ run (pairs (settings - i) next) file at) where
-  rest-2 : ℕ → Result Figures Fault
-  rest-2 d = run (pairs (settings - (i + 1)) next) file ((at + 2) + 2)
-
-  rest-1 : ℕ → Result Figures Fault
-  rest-1 m = then (figure-at pair 1 2000 file (at + 2)) rest-2
-
-  pairs-turn : all ≡ then (figure-at pair 0 1000 file at) rest-1
-  unfolding rest-1 rest-2
-  pairs-turn =
-      let e : settings - i ≡ suc (settings - (i + 1)) = omega arith in
-      sofar ∙ ap (λ n. run (pairs n next) file at) e
-
-  pub pairs-go : (m d : ℕ) → Ok m ≡ figure-at pair 0 1000 file at → Ok d ≡ figure-at pair 1 2000 file (at + 2) → all ≡ run (pairs (settings - (i + 1)) next) file (at + 4)
-  unfolding rest-1 rest-2
-  pairs-go m d e f =
-      let p : (at + 2) + 2 ≡ at + 4 = omega arith in
-      pairs-turn ∙ (goes rest-1 (sym e) ∙ (goes rest-2 (sym f) ∙ ap (run (pairs (settings - (i + 1)) next) file) p))
-
-  pub pairs-stop-1 : (f : Fault) → Err f ≡ figure-at pair 0 1000 file at → all ≡ Err f
-  pairs-stop-1 f e = pairs-turn ∙ stops rest-1 (sym e)
-
-  pub pairs-stop-2 : (m : ℕ) (f : Fault) → Ok m ≡ figure-at pair 0 1000 file at → Err f ≡ figure-at pair 1 2000 file (at + 2) → all ≡ Err f
-  unfolding rest-1
-  pairs-stop-2 m f e g = pairs-turn ∙ (goes rest-1 (sym e) ∙ stops rest-2 (sym g))
+pub pairs-turn : (file : List ℕ) (next : Format) (settings i at : ℕ) (all : Result Figures Fault) → i < settings → all ≡ run (pairs (settings - i) next) file at → all ≡ run (pairs 1 (pairs (settings - (i + 1)) next)) file at
+pairs-turn file next settings i at all more sofar =
+    let e : settings - i ≡ suc (settings - (i + 1)) = omega arith in
+    sofar ∙ ap (λ n. run (pairs n next) file at) e

@@ -1,8 +1,8 @@
 -- The paths through a format, and what each outcome of a check says of a format from a place on.
 use mathlib.Core.Path.{_≡_, refl, sym, _∙_, ap, subst}
-use mathlib.Core.Logic.{_⊎_, inl, inr}
+use mathlib.Core.Logic.{_⊎_}
 use mathlib.Core.List.{List, [], _∷_, _++_}
-use Prim.Native.Nat.{ℕ, _+_, _*_, _/_, _%_, _≤_, _<_, min}
+use Prim.Native.Nat.{ℕ, _+_, _*_, _/_, _%_, _≤_, _<_}
 use native.Mathlib.Omega.{arith}
 use lib.ListN.{length, getD, take, drop}
 use mir.Val.{Fits}
@@ -10,7 +10,7 @@ use mir.Syntax.{w8}
 use Rattle.std.specs.Joined.{joined}
 use Rattle.std.specs.declared.result.Result.{Result}
 use Rattle.std.specs.declared.result.Result.the-variants.{Ok, Err}
-use Rattle.std.proofs.shelf.Lists.{append-nil, append-assoc, append-cancel-left, length-append, length-take-le, take-append-drop, take-take, take-more, take-at}
+use Rattle.std.proofs.shelf.Lists.{append-assoc, append-cancel-left, take-append-drop, take-take, take-more}
 use Rattle.fault.specs.declared.refusal.Refusal.the-variants.{FileEndsEarly, FigureOutOfRange, FileGoesOn}
 use Rattle.fault.specs.declared.refusal.Fault.{Fault}
 use Rattle.fault.specs.Faults.{fault-at}
@@ -92,9 +92,9 @@ module _ (size : Size) (low high : ℕ) (next : ℕ → Format) (before : List �
   pub same-value : (v : ℕ) (f : Figure) (js x y : List ℕ) → f ≡ due size low high (f .value) → (before ++ (spelt f ++ js)) ++ x ≡ (before ++ sized size v) ++ y → f .value ≡ v
   same-value v f js x y e h =
       let p : before ++ (spelt f ++ (js ++ x)) ≡ before ++ (sized size v ++ y) =
-        sym (simp append-assoc) ∙ (h ∙ append-assoc before (sized size v) y) in
+      sym (simp append-assoc) ∙ (h ∙ append-assoc before (sized size v) y) in
       let q : sized size (f .value) ++ (js ++ x) ≡ sized size v ++ y =
-        ap (λ b. b ++ (js ++ x)) (sym (ap spelt e)) ∙ append-cancel-left before _ _ p in
+      ap (λ b. b ++ (js ++ x)) (sym (ap spelt e)) ∙ append-cancel-left before _ _ p in
       sized-same size (f .value) v (js ++ x) y q
 
   pub moved : (v : ℕ) (f : Figure) (js : List ℕ) → f ≡ due size low high (f .value) → f .value ≡ v → (before ++ sized size v) ++ js ≡ before ++ (spelt f ++ js)
@@ -115,9 +115,12 @@ module _ (size : Size) (low high : ℕ) (next : ℕ → Format) (before : List �
       go : (path : List Figure) → Follows (figure size low high next) path h → before ++ joined spelt path ≡ w → (low ≤ v) × (v ≤ high) × Spells (next v) (before ++ sized size v) w h
       go [] f r = absurd f
       go (f ∷ fs) g r =
-          let k : f .value ≡ v = same-value v f (joined spelt fs) x y (g .0) (ap (λ l. l ++ x) r ∙ e) in
-          (subst (λ n. low ≤ n) k (g .1), subst (λ n. n ≤ high) k (g .2), record {
-            path = fs;
-            follows = subst (λ n. Follows (next n) fs h) k (g .3);
-            reads = moved v f (joined spelt fs) (g .0) k ∙ r;
-          })
+          let k : f .value ≡ v = same-value v f (joined spelt fs) x y (g .0) (ap (λ l. l ++ x) r ∙ e) in (
+            subst (λ n. low ≤ n) k (g .1),
+            subst (λ n. n ≤ high) k (g .2),
+            record {
+              path = fs;
+              follows = subst (λ n. Follows (next n) fs h) k (g .3);
+              reads = moved v f (joined spelt fs) (g .0) k ∙ r;
+            },
+          )

@@ -3,3 +3,4 @@ pub mod Follows
 pub mod Outcomes
 pub mod Orders
 pub mod Settles
+pub mod Filed

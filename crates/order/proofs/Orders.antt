@@ -1,13 +1,12 @@
 -- The figures of an order are a path through the order format, each path is the figures of one order, and an order is told by its figures.
 use mathlib.Core.Path.{_≡_, refl, sym, _∙_, ap, subst}
-use mathlib.Core.Logic.{_⊎_, inl, inr}
 use mathlib.Core.List.{List, [], _∷_, _++_, map}
-use Prim.Native.Nat.{ℕ, zero, suc, _+_, _≤_, _<_}
+use Prim.Native.Nat.{ℕ, zero, suc, _+_, _≤_}
 use native.Mathlib.Omega.{arith}
 use lib.ListN.{length, take, drop}
 use Rattle.std.specs.Joined.{joined}
 use Rattle.std.specs.shelf.Lists.{All}
-use Rattle.std.proofs.shelf.Lists.{length-append, length-take, length-drop, length-take-le, take-append-drop, take-at, append-cancel-left}
+use Rattle.std.proofs.shelf.Lists.{length-append, length-drop, length-take-le, take-append-drop, take-at, append-cancel-left}
 use Rattle.order.specs.declared.head.Figures.{Figures}
 use Rattle.order.specs.Order.{FiledSetting, Order, Size, byte, pair, Figure, InRange, settings, count-figure, width-figure, pair-figures, figures}
 use Rattle.order.specs.Format.{Format, done, figure, counts, widths, pairs, order-format}
@@ -17,6 +16,13 @@ use Rattle.order.proofs.Outcomes.{Open}
 
 abbrev whole : List FiledSetting → List FiledSetting
 whole p = p
+
+-- what stands behind the counts, and behind the head
+abbrev pub last-part : Figures → ℕ → Format
+last-part d n = widths n (pairs n (done d))
+
+abbrev pub behind : Figures → Format
+behind d = counts (d .pieces) 0 (last-part d)
 
 -- ---- every figure of the format has room
 counts-open : (n total : ℕ) (next : ℕ → Format) → ((m : ℕ) → Open (next m)) → Open (counts n total next)
@@ -32,9 +38,20 @@ pairs-open zero next o = o
 pairs-open (suc n) next o = ((omega arith, omega arith), λ v lo hi. ((omega arith, omega arith), λ u l h. pairs-open n next o))
 
 pub order-open : Open order-format
-order-open =
-    (omega arith, λ n _ _. (omega arith, λ b _ _. (omega arith, λ g _ _. ((omega arith, omega arith), λ c _ _.
-      counts-open n 0 _ (λ m. widths-open m _ (pairs-open m _ tt))))))
+order-open = (
+  omega arith,
+  λ n _ _. (
+    omega arith,
+    λ b _ _. (
+      omega arith,
+      λ g _ _. (
+        (omega arith, omega arith),
+        λ c _ _.
+            counts-open n 0 _ (λ m. widths-open m _ (pairs-open m _ tt)),
+      ),
+    ),
+  ),
+)
 
 -- ---- from an order to a path
 counts-follow : (ps : List (List FiledSetting)) (total n : ℕ) (next : ℕ → Format) (rest : List Figure) (h : Figures) → total + length (joined whole ps) ≡ n → All InRange (map count-figure ps ++ rest) → (All InRange rest → Follows (next n) rest h) → Follows (counts (length ps) total next) (map count-figure ps ++ rest) h
@@ -56,10 +73,28 @@ order-follows o a =
     let b = a .1 in
     let c = b .1 in
     let d = c .1 in
-    let e : 0 + length (settings o) ≡ length (settings o) = omega arith in
-    (refl, a .0 .0, a .0 .1, (refl, b .0 .0, b .0 .1, (refl, c .0 .0, c .0 .1, (refl, d .0 .0, d .0 .1,
-      counts-follow (o .pieces) 0 (length (settings o)) _ _ (head o) e (d .1) (λ r.
-        widths-follow (settings o) _ _ (head o) r (pairs-follow (settings o) (head o)))))))
+    let e : 0 + length (settings o) ≡ length (settings o) = omega arith in (
+      refl,
+      a .0 .0,
+      a .0 .1,
+      (
+        refl,
+        b .0 .0,
+        b .0 .1,
+        (
+          refl,
+          c .0 .0,
+          c .0 .1,
+          (
+            refl,
+            d .0 .0,
+            d .0 .1,
+            counts-follow (o .pieces) 0 (length (settings o)) _ _ (head o) e (d .1) (λ r.
+                widths-follow (settings o) _ _ (head o) r (pairs-follow (settings o) (head o))),
+          ),
+        ),
+      ),
+    )
 
 -- ---- from a path to an order
 pub in-range-all : (t : Format) (figs : List Figure) (h : Figures) → Follows t figs h → All InRange figs
@@ -192,25 +227,34 @@ record Bodied (d : Figures) (figs : List Figure) (h : Figures) : Type 0 where
   is : body-figures ps ≡ figs
   ends : d ≡ h
 
-bodied : (d : Figures) (figs : List Figure) (h : Figures) → Follows (counts (d .pieces) 0 (λ n. widths n (pairs n (done d)))) figs h → Bodied d figs h
+-- pieces that have these counts, and settings that have these widths
+module _ (ks : List ℕ) (ss : List FiledSetting) (ws : List ℕ) (wide-as : map width-of ss ≡ ws) where
+  counts-are : (ps : List (List FiledSetting)) → map (λ (p : List FiledSetting). length p) ps ≡ ks → map count-figure ps ≡ map (due byte 1 8) ks
+  counts-are ps long = counts-map ps ∙ ap (map (due byte 1 8)) long
+
+  widths-are : map width-figure ss ≡ map (due byte 0 255) ws
+  widths-are = widths-map ss ∙ ap (map (due byte 0 255)) wide-as
+
+  body-is : (ps : List (List FiledSetting)) (figs rest last : List Figure) → map (λ (p : List FiledSetting). length p) ps ≡ ks → joined whole ps ≡ ss → figs ≡ map (due byte 1 8) ks ++ rest → rest ≡ map (due byte 0 255) ws ++ last → last ≡ joined pair-figures ss → body-figures ps ≡ figs
+  body-is ps figs rest last long all a b c =
+      ap (λ t. map count-figure ps ++ (map width-figure t ++ joined pair-figures t)) all
+      ∙ (ap (λ t. t ++ (map width-figure ss ++ joined pair-figures ss)) (counts-are ps long)
+      ∙ (ap (λ t. map (due byte 1 8) ks ++ (t ++ joined pair-figures ss)) widths-are
+      ∙ (ap (λ t. map (due byte 1 8) ks ++ (map (due byte 0 255) ws ++ t)) (sym c)
+      ∙ (ap (λ t. map (due byte 1 8) ks ++ t) (sym b) ∙ sym a))))
+
+bodied : (d : Figures) (figs : List Figure) (h : Figures) → Follows (behind d) figs h → Bodied d figs h
 bodied d figs h f =
-    let a = counted (d .pieces) 0 (λ n. widths n (pairs n (done d))) figs h f in
+    let a = counted (d .pieces) 0 (last-part d) figs h f in
     let n : ℕ = 0 + total-of (a .ks) in
     let b = wide n (pairs n (done d)) (a .rest) h (a .follows) in
     let c = paired (b .ws) d (b .rest) h (subst (λ m. Follows (pairs m (done d)) (b .rest) h) (sym (b .many)) (b .follows)) in
     let l : length (c .ss) ≡ n = sym (map-long width-of (c .ss)) ∙ (ap length (c .wide-as) ∙ b .many) in
     let e = dealt (a .ks) (c .ss) (omega arith) in
-    let p : map count-figure (e .ps) ≡ map (due byte 1 8) (a .ks) = counts-map (e .ps) ∙ ap (map (due byte 1 8)) (e .long) in
-    let q : map width-figure (c .ss) ≡ map (due byte 0 255) (b .ws) = widths-map (c .ss) ∙ ap (map (due byte 0 255)) (c .wide-as) in
     record {
       ps = e .ps;
       many = sym (map-long (λ (p : List FiledSetting). length p) (e .ps)) ∙ (ap length (e .long) ∙ a .many);
-      is =
-        ap (λ t. map count-figure (e .ps) ++ (map width-figure t ++ joined pair-figures t)) (e .all)
-        ∙ (ap (λ t. t ++ (map width-figure (c .ss) ++ joined pair-figures (c .ss))) p
-        ∙ (ap (λ t. map (due byte 1 8) (a .ks) ++ (t ++ joined pair-figures (c .ss))) q
-        ∙ (ap (λ t. map (due byte 1 8) (a .ks) ++ (map (due byte 0 255) (b .ws) ++ t)) (sym (c .is))
-        ∙ (ap (λ t. map (due byte 1 8) (a .ks) ++ t) (sym (b .is)) ∙ sym (a .is)))));
+      is = body-is (a .ks) (c .ss) (b .ws) (c .wide-as) (e .ps) figs (a .rest) (b .rest) (e .long) (e .all) (a .is) (b .is) (c .is);
       ends = c .ends;
     }
 
@@ -225,13 +269,6 @@ head-figures d rest = due byte 1 12 (d .pieces) ∷ (due byte 1 24 (d .breadth) 
 abbrev headed : (pieces breadth gutter ceiling : ℕ) → Figures
 headed n b g c = record { pieces = n; breadth = b; gutter = g; ceiling = c }
 
--- what stands behind the counts, and behind the head
-abbrev pub last-part : Figures → ℕ → Format
-last-part d n = widths n (pairs n (done d))
-
-abbrev pub behind : Figures → Format
-behind d = counts (d .pieces) 0 (last-part d)
-
 pub ordered : (figs : List Figure) (h : Figures) → Follows order-format figs h → Ordered figs h
 ordered figs h f =
     let a = first byte 1 12 (λ n. figure byte 1 24 (λ b. figure byte 0 200 (λ g. figure pair 1 40000 (λ c. behind (headed n b g c))))) figs h f in
@@ -243,11 +280,11 @@ ordered figs h f =
     record {
       order = record { breadth = b .value; gutter = g .value; ceiling = c .value; pieces = k .ps };
       is =
-        ap (λ n. head-figures (headed n (b .value) (g .value) (c .value)) (body-figures (k .ps))) (k .many)
-        ∙ (ap (head-figures d) (k .is)
-        ∙ (ap (λ t. due byte 1 12 (a .value) ∷ (due byte 1 24 (b .value) ∷ (due byte 0 200 (g .value) ∷ t))) (sym (c .is))
-        ∙ (ap (λ t. due byte 1 12 (a .value) ∷ (due byte 1 24 (b .value) ∷ t)) (sym (g .is))
-        ∙ (ap (λ t. due byte 1 12 (a .value) ∷ t) (sym (b .is)) ∙ sym (a .is)))));
+          ap (λ n. head-figures (headed n (b .value) (g .value) (c .value)) (body-figures (k .ps))) (k .many)
+          ∙ (ap (head-figures d) (k .is)
+          ∙ (ap (λ t. due byte 1 12 (a .value) ∷ (due byte 1 24 (b .value) ∷ (due byte 0 200 (g .value) ∷ t))) (sym (c .is))
+          ∙ (ap (λ t. due byte 1 12 (a .value) ∷ (due byte 1 24 (b .value) ∷ t)) (sym (g .is))
+          ∙ (ap (λ t. due byte 1 12 (a .value) ∷ t) (sym (b .is)) ∙ sym (a .is)))));
       ends = ap (λ n. headed n (b .value) (g .value) (c .value)) (k .many) ∙ k .ends;
     }
 
@@ -285,7 +322,7 @@ pairs-same (s ∷ ss) (t ∷ ts) w e =
     let b : s .marks ≡ t .marks = ap (λ x. x .value) f in
     let c : s .depth ≡ t .depth = ap (λ x. x .value) g in
     let d : s ≡ t = ap (λ n. record { width = n; marks = s .marks; depth = s .depth }) a
-      ∙ (ap (λ n. record { width = t .width; marks = n; depth = s .depth }) b ∙ ap (λ n. record { width = t .width; marks = t .marks; depth = n }) c) in
+    ∙ (ap (λ n. record { width = t .width; marks = n; depth = s .depth }) b ∙ ap (λ n. record { width = t .width; marks = t .marks; depth = n }) c) in
     let r : ss ≡ ts = pairs-same ss ts (cc) (cc) in
     cc
 

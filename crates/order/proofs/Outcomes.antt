@@ -1,9 +1,8 @@
 -- The outcome of a run over a format holds, and no other does.
 use mathlib.Core.Path.{_≡_, refl, sym, _∙_, ap, subst}
-use mathlib.Core.Bool.{cond}
 use mathlib.Core.Logic.{_⊎_, inl, inr, ⊎-elim}
 use mathlib.Core.List.{List, [], _∷_, _++_}
-use Prim.Native.Nat.{ℕ, _+_, _*_, _/_, _%_, _≤_, _<_}
+use Prim.Native.Nat.{ℕ, _+_, _/_, _%_, _≤_, _<_}
 use native.Mathlib.Omega.{arith}
 use lib.ListN.{length, getD, take, drop}
 use mir.Val.{Fits}
@@ -11,16 +10,16 @@ use mir.Syntax.{w8}
 use Rattle.std.specs.Joined.{joined}
 use Rattle.std.specs.declared.result.Result.{Result}
 use Rattle.std.specs.declared.result.Result.the-variants.{Ok, Err}
-use Rattle.std.proofs.shelf.Lists.{append-nil, append-assoc, append-cancel-left, length-append, length-take, length-take-le, take-append-drop, take-all, take-more, take-at}
+use Rattle.std.proofs.shelf.Lists.{append-nil, append-assoc, append-cancel-left, length-append, length-take-le, take-append-drop, take-all, take-more, take-at}
 use Rattle.std.proofs.shelf.Tests.{cases-lt, le-leb, lt-leb, cond-true, cond-false}
 use Rattle.fault.specs.declared.refusal.Refusal.the-variants.{FileEndsEarly, FigureOutOfRange, FileGoesOn}
 use Rattle.fault.specs.declared.refusal.Fault.{Fault}
 use Rattle.fault.specs.Faults.{fault-at}
 use Rattle.order.specs.declared.head.Figures.{Figures}
 use Rattle.order.specs.Order.{Size, byte, pair, Figure, sized, spelt}
-use Rattle.order.specs.Format.{Format, done, figure, taken, number-at, figure-at, run}
+use Rattle.order.specs.Format.{Format, done, figure, taken, number-at, run}
 use Rattle.order.proofs.Due.{due-good, due-bad, due-early, goes, stops}
-use Rattle.order.proofs.Follows.{due, Follows, Spells, Early, Over, Misfit, Tells, sized-long, sized-same, read-on, take-further, same-value, moved, wider, narrower}
+use Rattle.order.proofs.Follows.{due, Follows, Spells, Early, Misfit, Tells, sized-long, sized-same, read-on, take-further, same-value, moved, wider, narrower}
 
 -- some value is in range, and behind every low byte of a pair some pair is
 abbrev pub Roomy : Size → (low high : ℕ) → Type 0
@@ -64,11 +63,11 @@ module _ (size : Size) (low high : ℕ) (next : ℕ → Format) (before file : L
         from = ap length (sym a) ∙ m .from;
         there = m .there;
         wrong = λ rest h s.
-          let n : ℕ = place + length (spelt (m .here)) in
-          let d : List ℕ = drop place (take n file) in
-          let e : (take n file ++ rest) ++ [] ≡ (before ++ sized size v) ++ (bs ++ (d ++ rest)) =
+            let n : ℕ = place + length (spelt (m .here)) in
+            let d : List ℕ = drop place (take n file) in
+            let e : (take n file ++ rest) ++ [] ≡ (before ++ sized size v) ++ (bs ++ (d ++ rest)) =
             append-nil (take n file ++ rest) ∙ (ap (λ l. l ++ rest) (sym (take-further place (length (spelt (m .here))) file)) ∙ (append-assoc (take place file) d rest ∙ (ap (λ l. l ++ (d ++ rest)) (sym (m .read)) ∙ append-assoc (before ++ sized size v) bs (d ++ rest)))) in
-          m .wrong rest h (narrower size low high next before v (take n file ++ rest) [] (bs ++ (d ++ rest)) h e s .2);
+            m .wrong rest h (narrower size low high next before v (take n file ++ rest) [] (bs ++ (d ++ rest)) h e s .2);
       }
 
   pub tells-wider : (r : Result Figures Fault) → Tells (next v) (before ++ sized size v) file r → Tells (figure size low high next) before file r
@@ -96,7 +95,7 @@ module _ (size : Size) (low high : ℕ) (next : ℕ → Format) (before file : L
             absurd (begins place (length (spelt (m .here))) (ap length (sym (append-nil before)) ∙ l) e (m .wrong))
         go (g ∷ gs) f r l =
             let k : g .value ≡ v = same-value size low high next before v g (joined spelt gs) (drop place file) rest′ (f .0)
-              (ap (λ x. x ++ drop place file) r ∙ (take-append-drop place file ∙ cut)) in
+            (ap (λ x. x ++ drop place file) r ∙ (take-append-drop place file ∙ cut)) in
             let j = moved size low high next before v g (joined spelt gs) (f .0) k in
             record {
               head = m .head;
@@ -116,8 +115,16 @@ module _ (size : Size) (low high : ℕ) (next : ℕ → Format) (before file : L
     pub tells-narrower : (r : Result Figures Fault) → Tells (figure size low high next) before file r → Tells (next v) (before ++ sized size v) file r
     tells-narrower (Ok h) s = narrow file [] rest′ h (append-nil file ∙ cut) s
     tells-narrower (Err e) (inl t) =
-        inl (t .0, (t .1 .0, t .1 .1, t .1 .2, narrow (file ++ t .1 .0) [] (rest′ ++ t .1 .0) (t .1 .1)
-        (append-nil (file ++ t .1 .0) ∙ (ap (λ l. l ++ t .1 .0) cut ∙ append-assoc (before ++ sized size v) rest′ (t .1 .0))) (t .1 .3)))
+        inl (
+          t .0,
+          (
+            t .1 .0,
+            t .1 .1,
+            t .1 .2,
+            narrow (file ++ t .1 .0) [] (rest′ ++ t .1 .0) (t .1 .1)
+                (append-nil (file ++ t .1 .0) ∙ (ap (λ l. l ++ t .1 .0) cut ∙ append-assoc (before ++ sized size v) rest′ (t .1 .0))) (t .1 .3),
+          ),
+        )
     tells-narrower (Err e) (inr (inl t)) = inr (inl (t .0, t .1, misfit-narrower (t .0) (t .2)))
     tells-narrower (Err e) (inr (inr t)) =
         inr (inr (t .0, t .1, (t .2 .0, t .2 .1, narrow (take (t .0) file) (drop (t .0) file) rest′ (t .2 .0) (take-append-drop (t .0) file ∙ cut) (t .2 .2))))
@@ -132,12 +139,16 @@ module _ (size : Size) (low high : ℕ) (next : ℕ → Format) (open′ : Open 
   at-end all =
       let le : low ≤ high = roomy size low high (open′ .0) in
       let s = some-path (next low) (open′ .1 low (omega arith) le) in
-      let bs : List ℕ = sized size low ++ joined spelt (s .path) in
-      (bs, s .end, sized-some size low (joined spelt (s .path)), record {
-        path = due size low high low ∷ s .path;
-        follows = (refl, omega arith, le, s .follows);
-        reads = ap (λ l. l ++ bs) (take-all at file all);
-      })
+      let bs : List ℕ = sized size low ++ joined spelt (s .path) in (
+        bs,
+        s .end,
+        sized-some size low (joined spelt (s .path)),
+        record {
+          path = due size low high low ∷ s .path;
+          follows = (refl, omega arith, le, s .follows);
+          reads = ap (λ l. l ++ bs) (take-all at file all);
+        },
+      )
 
   module _ (small : (i : ℕ) → Fits w8 (getD file i 0)) where
     misfit-here : at + taken size ≤ length file → (number-at size file at < low) ⊎ (high < number-at size file at) → Misfit (figure size low high next) (take at file) file at
@@ -154,13 +165,13 @@ module _ (size : Size) (low high : ℕ) (next : ℕ → Format) (open′ : Open 
           from = ap length (append-nil (take at file)) ∙ length-take-le at file (omega arith);
           there = omega (arith, sized-long size low);
           wrong = λ rest h p.
-            let w : List ℕ = take (at + length (sized size low)) file ++ rest in
-            let e : w ++ [] ≡ (take at file ++ sized size (number-at size file at)) ++ rest =
+              let w : List ℕ = take (at + length (sized size low)) file ++ rest in
+              let e : w ++ [] ≡ (take at file ++ sized size (number-at size file at)) ++ rest =
               append-nil w ∙ ap (λ l. l ++ rest) (ap (λ n. take (at + n) file) (sized-long size low) ∙ read-on size file at small there) in
-            let q = narrower size low high next (take at file) (number-at size file at) w [] rest h e p in
-            let a = q .0 in
-            let b = q .1 in
-            ⊎-elim (λ x. omega arith) (λ x. omega arith) out;
+              let q = narrower size low high next (take at file) (number-at size file at) w [] rest h e p in
+              let a = q .0 in
+              let b = q .1 in
+              ⊎-elim (λ x. omega arith) (λ x. omega arith) out;
         }
 
 half : (low high : ℕ) (next : ℕ → Format) → Open (figure pair low high next) → (file : List ℕ) (at : ℕ) → ((i : ℕ) → Fits w8 (getD file i 0)) → at + 1 ≡ length file → Early (figure pair low high next) (take at file) file
@@ -172,12 +183,16 @@ half low high next o file at small e =
     let s = some-path (next (b + 256)) (o .1 (b + 256) lo hi) in
     let bs : List ℕ = ((b + 256) / 256) ∷ joined spelt (s .path) in
     let k : b ≡ (b + 256) % 256 = omega arith in
-    let f : take at file ++ b ∷ [] ≡ file = sym (take-more file at 0 (omega arith)) ∙ take-all (at + 1) file (omega arith) in
-    (bs, s .end, omega arith, record {
-      path = due pair low high (b + 256) ∷ s .path;
-      follows = (refl, lo, hi, s .follows);
-      reads = ap (λ n. take at file ++ n ∷ bs) (sym k) ∙ (sym (append-assoc (take at file) (b ∷ []) bs) ∙ ap (λ x. x ++ bs) f);
-    })
+    let f : take at file ++ b ∷ [] ≡ file = sym (take-more file at 0 (omega arith)) ∙ take-all (at + 1) file (omega arith) in (
+      bs,
+      s .end,
+      omega arith,
+      record {
+        path = due pair low high (b + 256) ∷ s .path;
+        follows = (refl, lo, hi, s .follows);
+        reads = ap (λ n. take at file ++ n ∷ bs) (sym k) ∙ (sym (append-assoc (take at file) (b ∷ []) bs) ∙ ap (λ x. x ++ bs) f);
+      },
+    )
 
 early-here : (size : Size) (low high : ℕ) (next : ℕ → Format) → Open (figure size low high next) → (file : List ℕ) (at : ℕ) → ((i : ℕ) → Fits w8 (getD file i 0)) → length file < at + taken size → Early (figure size low high next) (take at file) file
 early-here byte low high next o file at small h = at-end byte low high next o file at (omega arith)
@@ -192,9 +207,9 @@ pub told : (t : Format) → Open t → (file : List ℕ) → ((i : ℕ) → Fits
 told (done h) o file small at le =
     ⊎-elim
     (λ lt. subst (Tells (done h) (take at file) file) (sym (cond-false _ _ _ (lt-leb (length file) at lt)))
-      (inr (inr (at, refl, (h, lt, record { path = []; follows = refl; reads = append-nil (take at file) })))))
+    (inr (inr (at, refl, (h, lt, record { path = []; follows = refl; reads = append-nil (take at file) })))))
     (λ ge. subst (Tells (done h) (take at file) file) (sym (cond-true _ _ _ (le-leb (length file) at ge)))
-      (record { path = []; follows = refl; reads = append-nil (take at file) ∙ take-all at file ge }))
+    (record { path = []; follows = refl; reads = append-nil (take at file) ∙ take-all at file ge }))
     (cases-lt at (length file))
 told (figure size low high next) o file small at le =
     let t : Format = figure size low high next in
@@ -202,15 +217,15 @@ told (figure size low high next) o file small at le =
     let rest : ℕ → Result Figures Fault = λ n. run (next n) file (at + taken size) in
     ⊎-elim
     (λ short. subst (Tells t (take at file) file) (sym (stops rest (due-early size low high file at short)))
-      (inl (refl, early-here size low high next o file at small short)))
+    (inl (refl, early-here size low high next o file at small short)))
     (λ there.
-      ⊎-elim
-      (λ r. subst (Tells t (take at file) file) (sym (goes rest (due-good size low high file at there (r .0) (r .1))))
-        (tells-wider size low high next (take at file) file v (r .0) (r .1) (rest v)
-        (subst (λ b. Tells (next v) b file (rest v)) (read-on size file at small there) (told (next v) (o .1 v (r .0) (r .1)) file small (at + taken size) there))))
-      (λ r. subst (Tells t (take at file) file) (sym (stops rest (due-bad size low high file at there r)))
-        (inr (inl (at, refl, misfit-here size low high next o file at small there r))))
-      (within low high v))
+    ⊎-elim
+    (λ r. subst (Tells t (take at file) file) (sym (goes rest (due-good size low high file at there (r .0) (r .1))))
+    (tells-wider size low high next (take at file) file v (r .0) (r .1) (rest v)
+    (subst (λ b. Tells (next v) b file (rest v)) (read-on size file at small there) (told (next v) (o .1 v (r .0) (r .1)) file small (at + taken size) there))))
+    (λ r. subst (Tells t (take at file) file) (sym (stops rest (due-bad size low high file at there r)))
+    (inr (inl (at, refl, misfit-here size low high next o file at small there r))))
+    (within low high v))
     (cases-lt (length file) (at + taken size))
 
 -- ---- no other outcome does
@@ -289,7 +304,7 @@ module _ (size : Size) (low high : ℕ) (next : ℕ → Format) (file : List ℕ
         go [] f r l = ap (λ x. Err x) (t .1 ∙ ap (fault-at FigureOutOfRange) (from-here (t .0) l))
         go (g ∷ gs) f r l =
             let k : g .value ≡ v = same-value size low high next (take at file) v g (joined spelt gs) (drop (t .0) file) rest′ (f .0)
-              (ap (λ x. x ++ drop (t .0) file) r ∙ (take-append-drop (t .0) file ∙ cut)) in
+            (ap (λ x. x ++ drop (t .0) file) r ∙ (take-append-drop (t .0) file ∙ cut)) in
             absurd (never (subst (λ n. low ≤ n) k (f .1)) (subst (λ n. n ≤ high) k (f .2)))
     bad-alone (Err e) (inr (inr t)) =
         absurd (none (take (t .0) file) (drop (t .0) file) rest′ (t .2 .0) (take-append-drop (t .0) file ∙ cut) (t .2 .2))
@@ -303,14 +318,14 @@ alone (figure size low high next) o file small at le r t =
     ⊎-elim
     (λ short. short-alone size low high next file at le short r t ∙ sym (stops rest (due-early size low high file at short)))
     (λ there.
-      let on = read-on size file at small there in
-      let cut : file ≡ (take at file ++ sized size v) ++ after = sym (take-append-drop (at + taken size) file) ∙ ap (λ l. l ++ after) on in
-      ⊎-elim
-      (λ i. alone (next v) (o .1 v (i .0) (i .1)) file small (at + taken size) there r
-        (subst (λ b. Tells (next v) b file r) (sym on) (tells-narrower size low high next (take at file) file v (i .0) (i .1) after cut (o .1 v (i .0) (i .1)) r t))
-        ∙ sym (goes rest (due-good size low high file at there (i .0) (i .1))))
-      (λ i. bad-alone size low high next file at le v after cut i r t ∙ sym (stops rest (due-bad size low high file at there i)))
-      (within low high v))
+    let on = read-on size file at small there in
+    let cut : file ≡ (take at file ++ sized size v) ++ after = sym (take-append-drop (at + taken size) file) ∙ ap (λ l. l ++ after) on in
+    ⊎-elim
+    (λ i. alone (next v) (o .1 v (i .0) (i .1)) file small (at + taken size) there r
+    (subst (λ b. Tells (next v) b file r) (sym on) (tells-narrower size low high next (take at file) file v (i .0) (i .1) after cut (o .1 v (i .0) (i .1)) r t))
+    ∙ sym (goes rest (due-good size low high file at there (i .0) (i .1))))
+    (λ i. bad-alone size low high next file at le v after cut i r t ∙ sym (stops rest (due-bad size low high file at there i)))
+    (within low high v))
     (cases-lt (length file) (at + taken size))
 
 -- ---- a path is told by its bytes
@@ -322,10 +337,10 @@ one-path (figure size low high next) [] gigs h k f g e = absurd f
 one-path (figure size low high next) (a ∷ fs) [] h k f g e = absurd g
 one-path (figure size low high next) (a ∷ fs) (b ∷ gs) h k f g e =
     let p : sized size (a .value) ++ joined spelt fs ≡ sized size (b .value) ++ joined spelt gs =
-      ap (λ l. l ++ joined spelt fs) (sym (ap spelt (f .0))) ∙ (e ∙ ap (λ l. l ++ joined spelt gs) (ap spelt (g .0))) in
+    ap (λ l. l ++ joined spelt fs) (sym (ap spelt (f .0))) ∙ (e ∙ ap (λ l. l ++ joined spelt gs) (ap spelt (g .0))) in
     let v : a .value ≡ b .value = sized-same size (a .value) (b .value) (joined spelt fs) (joined spelt gs) p in
     let q : sized size (b .value) ++ joined spelt fs ≡ sized size (b .value) ++ joined spelt gs =
-      ap (λ n. sized size n ++ joined spelt fs) (sym v) ∙ p in
+    ap (λ n. sized size n ++ joined spelt fs) (sym v) ∙ p in
     let r = one-path (next (b .value)) fs gs h k (subst (λ n. Follows (next n) fs h) v (f .3)) (g .3) (append-cancel-left (sized size (b .value)) _ _ q) in
     let s : a ≡ b = f .0 ∙ (ap (due size low high) v ∙ sym (g .0)) in
     cc

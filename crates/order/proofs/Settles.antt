@@ -1,10 +1,10 @@
 -- What a run over the order format answers is settled, and a file has at most one reading.
-use mathlib.Core.Path.{_≡_, refl, sym, _∙_, ap, subst}
-use mathlib.Core.Logic.{_⊎_, inl, inr}
+use mathlib.Core.Path.{_≡_, sym, _∙_, ap, subst}
+use mathlib.Core.Logic.{inl, inr}
 use mathlib.Core.List.{List, [], _∷_, _++_}
 use Prim.Native.Nat.{ℕ, _+_, _≤_}
 use native.Mathlib.Omega.{arith}
-use lib.ListN.{length, getD, take}
+use lib.ListN.{length, getD}
 use mir.Val.{Fits}
 use mir.Syntax.{w8}
 use Rattle.std.specs.Joined.{joined}
@@ -13,12 +13,12 @@ use Rattle.std.specs.declared.result.Result.{Result}
 use Rattle.std.specs.declared.result.Result.the-variants.{Ok, Err}
 use Rattle.fault.specs.declared.refusal.Fault.{Fault}
 use Rattle.order.specs.declared.head.Figures.{Figures}
-use Rattle.order.specs.Order.{Order, Figure, InRange, figures, spelt, Reads, GoodFile, Begins}
+use Rattle.order.specs.Order.{Order, Figure, InRange, figures, spelt, Reads}
 use Rattle.order.specs.Format.{order-format, run}
 use Rattle.order.specs.Told.{head, OutOfRange, Told, Settled, OneReading}
 use Rattle.order.proofs.Follows.{Follows, Spells, Misfit, Tells}
 use Rattle.order.proofs.Outcomes.{told, alone, one-path}
-use Rattle.order.proofs.Orders.{order-open, order-follows, in-range-all, Ordered, ordered, one-order, last-part, behind}
+use Rattle.order.proofs.Orders.{order-open, order-follows, in-range-all, ordered, one-order, last-part, behind}
 
 -- an order's bytes are what a path spells, and back
 spells : (w : List ℕ) (o : Order) → Reads w o → Spells order-format [] w (head o)
@@ -87,7 +87,11 @@ settles file small r e =
       alone = λ s t. alone order-format order-open file small 0 le s (to-tells file s t);
     })
 
--- a run that has come to the widths
+-- at the exit of a `?`, which hands the fault e on
+pub settles-at : (file : List ℕ) → ((i : ℕ) → Fits w8 (getD file i 0)) → (r : Result Figures Fault) (e : Fault) → (d : Fault) × (r ≡ Err d) × (d ≡ e) → run order-format file 0 ≡ Err e → Settled file r
+settles-at file small r e p q = settles file small r (q ∙ (ap (λ x. Err x) (sym (p .2)) ∙ sym (p .1)))
+
+-- a run that has come to the widths, behind k pieces
 pub to-widths : (file : List ℕ) (h : Figures) (n k : ℕ) → run order-format file 0 ≡ run (behind h) file 5 → run (behind h) file 5 ≡ run (last-part h n) file (5 + h .pieces) → k ≡ h .pieces → run order-format file 0 ≡ run (last-part h n) file (5 + k)
 to-widths file h n k a b e = a ∙ (b ∙ ap (λ x. run (last-part h n) file (5 + x)) (sym e))
 

@@ -1,5 +1,4 @@
--- An order file read figure by figure: what may stand in it from a place on, and the first fault there.
-use mathlib.Core.Path.{_≡_}
+-- An order file read figure by figure: what may stand in it from a place on, and the first fault there. The steps of a check promise in these terms.
 use mathlib.Core.Bool.{Bool, cond, _&&_}
 use mathlib.Core.List.{List}
 use Prim.Native.Nat.{ℕ, zero, suc, _+_, _*_}
@@ -28,6 +27,7 @@ abbrev pub number-at : Size → List ℕ → ℕ → ℕ
 number-at byte file at = getD file at 0
 number-at pair file at = getD file at 0 + 256 * getD file (at + 1) 0
 
+-- a number is from low to high
 abbrev pub in-range : (low high n : ℕ) → Bool
 in-range low high n = leb low n && leb n high
 
@@ -53,7 +53,7 @@ run (figure size low high next) file at =
 abbrev pub head-first : (Figures → Format) → Format
 head-first next =
     figure byte 1 12 (λ n. figure byte 1 24 (λ b. figure byte 0 200 (λ g. figure pair 1 40000 (λ c.
-      next (record { pieces = n; breadth = b; gutter = g; ceiling = c })))))
+    next (record { pieces = n; breadth = b; gutter = g; ceiling = c })))))
 
 -- the number of settings of each piece, and what follows their total
 abbrev pub counts : (pieces total : ℕ) → (ℕ → Format) → Format

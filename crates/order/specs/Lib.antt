@@ -1,3 +1,5 @@
-pub mod Format
 pub mod Order
 pub mod Told
+pub mod Format
+pub mod Fills
+pub mod Headings

@@ -12,6 +12,7 @@ pub record FiledSetting : Type 0 where
   pub marks : ℕ
   pub depth : ℕ
 
+-- an order: the page's breadth, gutter lines and ceiling depth, and the settings of each piece
 pub record Order : Type 0 where
   pub breadth : ℕ
   pub gutter : ℕ
@@ -30,13 +31,16 @@ pub record Figure : Type 0 where
   pub high : ℕ
   pub value : ℕ
 
+-- the bytes of a number at a size
 abbrev pub sized : Size → ℕ → List ℕ
 sized byte n = n ∷ []
 sized pair n = n % 256 ∷ (n / 256 ∷ [])
 
+-- the bytes of a figure
 abbrev pub spelt : Figure → List ℕ
 spelt f = sized (f .size) (f .value)
 
+-- a figure keeps its range
 abbrev pub InRange : Figure → Type 0
 InRange f = (f .low ≤ f .value) × (f .value ≤ f .high)
 
@@ -44,12 +48,15 @@ InRange f = (f .low ≤ f .value) × (f .value ≤ f .high)
 abbrev pub settings : Order → List FiledSetting
 settings o = joined (λ (p : List FiledSetting). p) (o .pieces)
 
+-- the number of settings of a piece
 abbrev pub count-figure : List FiledSetting → Figure
 count-figure p = record { size = byte; low = 1; high = 8; value = length p }
 
+-- a width, which may be any byte: it is tested where its piece is put
 abbrev pub width-figure : FiledSetting → Figure
 width-figure s = record { size = byte; low = 0; high = 255; value = s .width }
 
+-- the marks and the depth of a setting
 abbrev pub pair-figures : FiledSetting → List Figure
 pair-figures s =
     record { size = pair; low = 0; high = 1000; value = s .marks }
@@ -73,6 +80,7 @@ pub record Reads (file : List ℕ) (o : Order) : Type 0 where
   pub good : All InRange (figures o)
   pub spells : bytes o ≡ file
 
+-- the file is that of some order
 abbrev pub GoodFile : List ℕ → Type 0
 GoodFile file = (o : Order) × Reads file o
 

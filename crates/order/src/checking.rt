@@ -45,7 +45,12 @@ fn read_head(file: &[u8]) -> Result<Figures, Fault>
     let breadth = byte_figure(file, 1, 1, 24)?;
     let gutter = byte_figure(file, 2, 0, 200)?;
     let ceiling = pair_figure(file, 3, 1, 40000)?;
-    Ok(Figures { pieces, breadth, gutter, ceiling })
+    Ok(Figures {
+        pieces,
+        breadth,
+        gutter,
+        ceiling,
+    })
 }
 
 // The number of settings of all pieces, which stand piece by piece behind the head.
@@ -75,7 +80,7 @@ fn check_pair(file: &[u8], at: usize) -> Result<usize, Fault>
 {
     pair_figure(file, at, 0, 1000)?;
     pair_figure(file, at + 2, 1, 2000)?;
-    Ok(at + 2 + 2)
+    Ok(at + 4)
 }
 
 // The place behind the marks and depths of so many settings.
@@ -114,5 +119,4 @@ pub fn check(file: &[u8]) -> Result<Figures, Fault>
 // A file has at most one reading as an order.
 pub fn one_reading()
     ensures { λ _. ⌜ OneReading ⌝ }
-{
-}
+{}

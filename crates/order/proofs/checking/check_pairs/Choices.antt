@@ -1,5 +1,5 @@
 use mathlib.Core.Path.{_≡_}
-use Prim.Native.Nat.{ℕ, _+_, _-_, _≤_}
+use Prim.Native.Nat.{_-_}
 use Rattle.order.specs.Format.{Format, run, pairs}
 use Rattle.order.proofs.checking.check_pairs.Given as given
 

@@ -13,6 +13,7 @@ returns-in-Break-byte-figure c next =
 
 pub loop-i-again : need.loop-i-again
 loop-i-again c =
-    let k = c .in-Continue-byte-figure .ensures tt in
-    (omega (arith, due-high byte 1 8 (c .args .file .now) (5 + c .loop-i .i) (c .in-Continue-byte-figure .field-0) k),
-     λ next. counts-go (c .args .file .now) next (c .args .pieces) (c .loop-i .i) (c .loop-i .settings) _ (omega arith) (c .loop-i .inv .1 next) _ (cc))
+    let k = c .in-Continue-byte-figure .ensures tt in (
+      omega (arith, due-high byte 1 8 (c .args .file .now) (5 + c .loop-i .i) (c .in-Continue-byte-figure .field-0) k),
+      λ next. counts-go (c .args .file .now) next (c .args .pieces) (c .loop-i .i) (c .loop-i .settings) _ (omega arith) (c .loop-i .inv .1 next) _ (cc),
+    )
