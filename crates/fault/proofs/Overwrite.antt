@@ -29,7 +29,7 @@ overwrite-more at xs ys o h =
     let e : overwrite at xs o ≡ (take at o ++ xs) ++ tail = sym (append-assoc (take at o) xs tail) in
     let front : take (at + length xs) (overwrite at xs o) ≡ take at o ++ xs = ap (take (at + length xs)) e ∙ take-at (take at o ++ xs) tail (at + length xs) n in
     let back : drop (at + length xs + length ys) (overwrite at xs o) ≡ drop (at + length xs + length ys) o =
-      sym (drop-drop (length ys) (at + length xs) (overwrite at xs o)) ∙ ap (drop (length ys)) (ap (drop (at + length xs)) e ∙ drop-at (take at o ++ xs) tail (at + length xs) n) ∙ drop-drop (length ys) (at + length xs) o in
+    sym (drop-drop (length ys) (at + length xs) (overwrite at xs o)) ∙ ap (drop (length ys)) (ap (drop (at + length xs)) e ∙ drop-at (take at o ++ xs) tail (at + length xs) n) ∙ drop-drop (length ys) (at + length xs) o in
     let m : at + length xs + length ys ≡ at + length (xs ++ ys) = omega (arith, length-append xs ys) in
     (λ i. front i ++ (ys ++ back i)) ∙ append-assoc (take at o) xs (ys ++ drop (at + length xs + length ys) o)
     ∙ ap (λ l. take at o ++ l) (sym (append-assoc xs ys (drop (at + length xs + length ys) o)))

@@ -3,6 +3,8 @@ use mathlib.Core.List.{List}
 use Prim.Native.Nat.{ℕ}
 use lib.Chars.{codes}
 use Rattle.std.specs.declared.option.Option.the-variants.{Some, None}
+use Rattle.std.specs.declared.result.Result.{Result}
+use Rattle.std.specs.declared.result.Result.the-variants.{Ok, Err}
 use Rattle.fault.specs.declared.refusal.Refusal.{Refusal}
 use Rattle.fault.specs.declared.refusal.Refusal.the-variants.{Breadth, SettingCount, Memory, Width, Amount, PageFull, NoSuchPiece, NoPieces, WidthAsked, Unfinished, NoLayout, SpoiledCode, WrongSign, TextEndsEarly, TextGoesOn, WrongLetter, PieceMissing, FileEndsEarly, FigureOutOfRange, FileGoesOn}
 use Rattle.fault.specs.declared.refusal.Layer.{Layer}
@@ -72,3 +74,8 @@ fault r = fault-at r 0
 -- the same fault, said of a piece
 abbrev pub of-piece : ℕ → Fault → Fault
 of-piece k f = record { refusal = f .refusal; place = f .place; piece = Some k }
+
+-- a step, and what comes of its value where it was not refused
+abbrev pub then : {A B : Type 0} → Result A Fault → (A → Result B Fault) → Result B Fault
+then (Ok a) next = next a
+then (Err e) next = Err e

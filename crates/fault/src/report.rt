@@ -37,13 +37,21 @@ impl Fault {
     pub fn at(refusal: Refusal, place: usize) -> Fault
         ensures { λ r. ⌜ r ≡ «fault-at» refusal place ⌝ }
     {
-        Fault { refusal, place, piece: None }
+        Fault {
+            refusal,
+            place,
+            piece: None,
+        }
     }
 
     // The same fault, said of a piece.
     pub fn of_piece(self, piece: u8) -> Fault
         ensures { λ r. ⌜ r ≡ «of-piece» piece self ⌝ }
     {
-        Fault { refusal: self.refusal, place: self.place, piece: Some(piece) }
+        Fault {
+            refusal: self.refusal,
+            place: self.place,
+            piece: Some(piece),
+        }
     }
 }

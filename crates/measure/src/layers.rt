@@ -4,6 +4,7 @@ ghost use mathlib.Core.Path.{_≡_};
 use crate::ranking::Measure;
 
 // A measure whose parts above each other have a gap between them, of one fixed amount.
+#[derive(Drop)]
 pub struct Gutter<M: Measure> {
     pub lower: M,
     pub gap: M::Amount,
@@ -33,6 +34,7 @@ pub impl<M: Measure> Measure for Gutter<M> as GutterMeasure {
 }
 
 // A measure that gives nothing worse than one fixed amount.
+#[derive(Drop)]
 pub struct Ceiling<M: Measure> {
     pub lower: M,
     pub limit: M::Amount,
@@ -44,7 +46,11 @@ impl<M: Measure> Ceiling<M> {
         ensures { λ r. ⌜ r ≡ kept (M·Measure .functions (now (self .entry) .lower)) (now (self .entry) .limit) found ⌝ }
     {
         let a = found?;
-        if self.lower.no_worse(a, self.limit) { Some(a) } else { None }
+        if self.lower.no_worse(a, self.limit) {
+            Some(a)
+        } else {
+            None
+        }
     }
 }
 

@@ -50,7 +50,11 @@ pub impl Measure for Marked as MarkedMeasure {
     }
 
     fn cell(&self, a: MarkedDepth) -> Option<MarkedDepth> {
-        if a.marks <= 1000 && a.depth >= 1 && a.depth <= 2000 { Some(a) } else { None }
+        if a.marks <= 1000 && a.depth >= 1 && a.depth <= 2000 {
+            Some(a)
+        } else {
+            None
+        }
     }
 
     fn beside(&self, a: MarkedDepth, b: MarkedDepth) -> Option<MarkedDepth> {
@@ -67,5 +71,9 @@ fn with_marks(a: MarkedDepth, b: MarkedDepth, depth: u16) -> Option<MarkedDepth>
     ensures { λ r. ⌜ r ≡ «with-marks» a b depth ⌝ }
 {
     let marks = a.marks.saturating_add(b.marks);
-    if marks > 9999 { None } else { Some(MarkedDepth { marks, depth }) }
+    if marks > 9999 {
+        None
+    } else {
+        Some(MarkedDepth { marks, depth })
+    }
 }

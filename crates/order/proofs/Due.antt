@@ -13,10 +13,10 @@ use Rattle.std.proofs.shelf.Tests.{cases-lt}
 use Rattle.std.proofs.shelf.Ways.{tells}
 use Rattle.fault.specs.declared.refusal.Refusal.the-variants.{FileEndsEarly, FigureOutOfRange}
 use Rattle.fault.specs.declared.refusal.Fault.{Fault}
-use Rattle.fault.specs.Faults.{fault-at}
+use Rattle.fault.specs.Faults.{fault-at, then}
 use Rattle.order.specs.declared.head.Figures.{Figures}
 use Rattle.order.specs.Order.{Size, byte}
-use Rattle.order.specs.Format.{Format, then, taken, number-at, figure-at, run, counts, widths, pairs}
+use Rattle.order.specs.Format.{Format, taken, number-at, figure-at, run, counts, widths, pairs}
 
 -- a figure that is there and in range, one that is out of range, and one that is not there
 module _ (size : Size) (low high : ℕ) (file : List ℕ) (at : ℕ) where

@@ -18,13 +18,14 @@ use Rattle.measure.specs.Measures.{Functions}
 use Rattle.measure.specs.Filing.{Filing}
 use Rattle.page.specs.Pieces.{Held}
 use Rattle.page.specs.Puts.{putting, put-leaves, with-piece}
-use Rattle.order.specs.Order.{FiledSetting, Order, Figure, InRange, spelt, settings, count-figure, width-figure, pair-figures, figures, bytes, Reads}
+use Rattle.order.specs.Order.{FiledSetting, Order, pair, Figure, InRange, spelt, settings, count-figure, width-figure, pair-figures, figures, bytes, Reads}
 use Rattle.order.specs.declared.head.Figures.{Figures}
+use Rattle.order.specs.Format.{number-at}
 use Rattle.order.specs.Told.{head, Told, Settled}
-use Rattle.order.specs.Fills.{widths-of, amounts-of, Outcome, go-on, filling, pair-value, amounts-at, said-of, Spells, AllPut, Filled}
+use Rattle.order.specs.Fills.{widths-of, amounts-of, Outcome, go-on, filling, amounts-at, said-of, Spells, AllPut, Filled}
 
 -- one more amount made: those made so far, and those still to come, are all
-pub amount-made : {A : Type 0} (f : Filing A) (file : List ℕ) (from count j : ℕ) (scratch : List A) (v : A) → j < count → j < length scratch → v ≡ f .amount (pair-value file (from + 4 * j)) (pair-value file (from + 4 * j + 2)) → take j scratch ++ amounts-at f file (from + 4 * j) (count - j) ≡ amounts-at f file from count → take (j + 1) (set scratch j v) ++ amounts-at f file (from + 4 * (j + 1)) (count - (j + 1)) ≡ amounts-at f file from count
+pub amount-made : {A : Type 0} (f : Filing A) (file : List ℕ) (from count j : ℕ) (scratch : List A) (v : A) → j < count → j < length scratch → v ≡ f .amount (number-at pair file (from + 4 * j)) (number-at pair file (from + 4 * j + 2)) → take j scratch ++ amounts-at f file (from + 4 * j) (count - j) ≡ amounts-at f file from count → take (j + 1) (set scratch j v) ++ amounts-at f file (from + 4 * (j + 1)) (count - (j + 1)) ≡ amounts-at f file from count
 amount-made f file from count j scratch v h fits e inv =
     let n : count - j ≡ suc (count - (j + 1)) = omega arith in
     let p : from + 4 * (j + 1) ≡ from + 4 * j + 4 = omega arith in
@@ -67,8 +68,8 @@ amounts-read f file tail from (s ∷ ss) e =
     let at : (i : ℕ) → getD file (from + i) 0 ≡ getD (pair-bytes (s ∷ ss) ++ tail) i 0 = λ i. sym (getD-drop from file i 0) ∙ ap (λ l. getD l i 0) e in
     let zeroth : getD file from 0 ≡ s .marks % 256 = (let z : from ≡ from + 0 = omega arith in ap (λ n. getD file n 0) z ∙ at 0) in
     let third : getD file (from + 2 + 1) 0 ≡ s .depth / 256 = (let z : from + 2 + 1 ≡ from + 3 = omega arith in ap (λ n. getD file n 0) z ∙ at 3) in
-    let marks : pair-value file from ≡ s .marks = omega (arith, zeroth, at 1) in
-    let depth : pair-value file (from + 2) ≡ s .depth = omega (arith, third, at 2) in
+    let marks : number-at pair file from ≡ s .marks = omega (arith, zeroth, at 1) in
+    let depth : number-at pair file (from + 2) ≡ s .depth = omega (arith, third, at 2) in
     let rest : drop (from + 4) file ≡ pair-bytes ss ++ tail = sym (drop-drop 4 from file) ∙ ap (drop 4) e in
     (λ i. f .amount (marks i) (depth i) ∷ amounts-read f file tail (from + 4) ss rest i)
 
@@ -106,7 +107,7 @@ module _ {A : Type 0} (m : Functions A) (f : Filing A) (file : List ℕ) (o : Or
   turn-of [] fs number more small ct ce wt we pe = absurd (omega arith)
   turn-of (p ∷ rest) fs number more small ct ce wt we pe =
       let wide : drop width-at file ≡ widths-of p ++ (widths-of (flat rest) ++ wt) =
-        we ∙ ap (λ l. l ++ wt) (map-append (λ (s : FiledSetting). s .width) p (flat rest)) ∙ append-assoc (widths-of p) (widths-of (flat rest)) wt in
+      we ∙ ap (λ l. l ++ wt) (map-append (λ (s : FiledSetting). s .width) p (flat rest)) ∙ append-assoc (widths-of p) (widths-of (flat rest)) wt in
       let deep : drop pair-at file ≡ pair-bytes p ++ pair-bytes (flat rest) = pe ∙ pair-bytes-append p (flat rest) in
       let wl : length (widths-of p) ≡ length p = length-map p (λ (s : FiledSetting). s .width) in
       let pl = length-pairs p in
@@ -115,7 +116,11 @@ module _ {A : Type 0} (m : Functions A) (f : Filing A) (file : List ℕ) (o : Or
       let d : length file - pair-at ≡ length (pair-bytes p) + length (pair-bytes (flat rest)) = sym (length-drop pair-at file) ∙ ap length deep ∙ length-append (pair-bytes p) (pair-bytes (flat rest)) in
       let one = small .0 .0 in
       record {
-        piece = p; rest = rest; fills = fs; some = small .0 .0; few = small .0 .1;
+        piece = p;
+        rest = rest;
+        fills = fs;
+        some = small .0 .0;
+        few = small .0 .1;
         count-in = omega arith;
         count = (let z : 5 + k ≡ 5 + k + 0 = omega arith in ap (λ n. getD file n 0) z ∙ sym (getD-drop (5 + k) file 0 0) ∙ ap (λ l. getD l 0 0) ce);
         widths-in = omega arith;
@@ -168,9 +173,9 @@ parts file o r =
     let body = map count-figure ps ++ (map width-figure ss ++ joined pair-figures ss) in
     let cs = map (λ (p : List FiledSetting). length p) ps in
     let split : joined spelt body ≡ cs ++ (widths-of ss ++ pair-bytes ss) =
-      joined-append spelt (map count-figure ps) (map width-figure ss ++ joined pair-figures ss)
-      ∙ (λ i. count-bytes ps i ++ joined-append spelt (map width-figure ss) (joined pair-figures ss) i)
-      ∙ ap (λ l. cs ++ (l ++ pair-bytes ss)) (width-bytes ss) in
+    joined-append spelt (map count-figure ps) (map width-figure ss ++ joined pair-figures ss)
+    ∙ (λ i. count-bytes ps i ++ joined-append spelt (map width-figure ss) (joined pair-figures ss) i)
+    ∙ ap (λ l. cs ++ (l ++ pair-bytes ss)) (width-bytes ss) in
     let cl : length cs ≡ length ps = length-map ps (λ (p : List FiledSetting). length p) in
     let wl : length (widths-of ss) ≡ length ss = length-map ss (λ (s : FiledSetting). s .width) in
     let tail : drop 5 file ≡ cs ++ (widths-of ss ++ pair-bytes ss) = ap (drop 5) (sym (r .spells)) ∙ split in

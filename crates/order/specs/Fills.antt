@@ -2,9 +2,9 @@
 use mathlib.Core.Path.{_≡_}
 use mathlib.Core.Bool.{cond}
 use mathlib.Core.List.{List, [], _∷_, map}
-use Prim.Native.Nat.{ℕ, zero, suc, _+_, _*_}
+use Prim.Native.Nat.{ℕ, zero, suc, _+_}
 use lib.Dec.{leb}
-use lib.ListN.{length, getD}
+use lib.ListN.{length}
 use Rattle.std.specs.declared.result.Result.{Result}
 use Rattle.std.specs.declared.result.Result.the-variants.{Ok, Err}
 use Rattle.fault.specs.declared.refusal.Refusal.the-variants.{Memory}
@@ -14,7 +14,8 @@ use Rattle.measure.specs.Measures.{Functions}
 use Rattle.measure.specs.Filing.{Filing}
 use Rattle.page.specs.Pieces.{Held}
 use Rattle.page.specs.Puts.{putting, with-piece}
-use Rattle.order.specs.Order.{FiledSetting, Order, Reads}
+use Rattle.order.specs.Order.{FiledSetting, Order, pair, Reads}
+use Rattle.order.specs.Format.{number-at}
 use Rattle.order.specs.Told.{Told}
 
 -- the widths of a filed piece, and its amounts under a filed measure
@@ -46,14 +47,10 @@ pub record Filled {A : Type 0} (m : Functions A) (f : Filing A) (file : List ℕ
   pub refused : (e : Fault) → Told file (Err e) → (r ≡ Err e) × (k ≡ h)
   pub put : (o : Order) → Reads file o → record { answer = r; leaves = k } ≡ cond (leb 8 scratch) (filling m f 0 (o .pieces) h) (record { answer = Err (fault Memory); leaves = h })
 
--- the number in two bytes of a file, the low one first
-abbrev pub pair-value : List ℕ → ℕ → ℕ
-pair-value file at = getD file at 0 + 256 * getD file (at + 1) 0
-
 -- the amounts of n filed pairs that stand in a file from a place on
 abbrev pub amounts-at : {A : Type 0} → Filing A → List ℕ → ℕ → ℕ → List A
 amounts-at f file from zero = []
-amounts-at f file from (suc n) = f .amount (pair-value file from) (pair-value file (from + 2)) ∷ amounts-at f file (from + 4) n
+amounts-at f file from (suc n) = f .amount (number-at pair file from) (number-at pair file (from + 2)) ∷ amounts-at f file (from + 4) n
 
 -- what put answers, said of piece k of the file
 abbrev pub said-of : ℕ → Result ℕ Fault → Result ℕ Fault

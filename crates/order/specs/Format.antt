@@ -8,14 +8,9 @@ use Rattle.std.specs.declared.result.Result.{Result}
 use Rattle.std.specs.declared.result.Result.the-variants.{Ok, Err}
 use Rattle.fault.specs.declared.refusal.Refusal.the-variants.{FileEndsEarly, FigureOutOfRange, FileGoesOn}
 use Rattle.fault.specs.declared.refusal.Fault.{Fault}
-use Rattle.fault.specs.Faults.{fault-at}
+use Rattle.fault.specs.Faults.{fault-at, then}
 use Rattle.order.specs.declared.head.Figures.{Figures}
 use Rattle.order.specs.Order.{Size, byte, pair}
-
--- a step, and what comes of its value
-abbrev pub then : {A B : Type 0} → Result A Fault → (A → Result B Fault) → Result B Fault
-then (Ok a) next = next a
-then (Err e) next = Err e
 
 -- the bytes that a figure takes
 abbrev pub taken : Size → ℕ

@@ -3,9 +3,11 @@ use crate::head::Figures;
 use fault::Fault;
 use fault::Refusal;
 ghost use mathlib.Core.Path.{_≡_};
-ghost use Prim.Native.Nat.{ℕ, _+_};
+ghost use Prim.Native.Nat.{ℕ, _+_, _≤_};
+ghost use lib.ListN.{length};
 ghost use Rattle.std.specs.declared.result.Result.the-variants.{Ok};
-ghost use Rattle.order.specs.Format.{Format, done, then, «figure-at», run, «head-first», counts, widths, pairs};
+ghost use Rattle.fault.specs.Faults.{then};
+ghost use Rattle.order.specs.Format.{Format, done, «number-at», «figure-at», run, «head-first», counts, widths, pairs};
 ghost use Rattle.order.specs.Order.{byte, pair};
 ghost use Rattle.order.specs.Told.{OneReading, Settled};
 
@@ -23,14 +25,22 @@ fn byte_figure(file: &[u8], at: usize, low: u8, high: u8) -> Result<u8, Fault>
     Ok(figure)
 }
 
-// The two bytes at a place, the low one first, as a number from `low` to `high`.
+// The number in two bytes, the low one first.
+pub(crate) fn pair_at(file: &[u8], at: usize) -> u16
+    requires { ⌜ at + 2 ≤ length (now file) ⌝ }
+    ensures { λ r. ⌜ r ≡ «number-at» pair (now (file .entry)) at ⌝ }
+{
+    u16::from(file[at]) + 256 * u16::from(file[at + 1])
+}
+
+// The number in two bytes from `low` to `high`.
 fn pair_figure(file: &[u8], at: usize, low: u16, high: u16) -> Result<u16, Fault>
     ensures { λ r. ⌜ r ≡ «figure-at» pair low high (now (file .entry)) at ⌝ }
 {
     if at >= file.len() || at + 1 >= file.len() {
         return Err(Fault::at(Refusal::FileEndsEarly, file.len()));
     }
-    let figure = u16::from(file[at]) + 256 * u16::from(file[at + 1]);
+    let figure = pair_at(file, at);
     if figure < low || figure > high {
         return Err(Fault::at(Refusal::FigureOutOfRange, at));
     }

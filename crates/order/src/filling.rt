@@ -1,5 +1,6 @@
 // The pieces of an order file, put on a page.
 use crate::checking::check;
+use crate::checking::pair_at;
 use fault::Fault;
 use fault::Refusal;
 use measure::Filed;
@@ -9,15 +10,7 @@ ghost use Prim.Native.Nat.{_+_, _*_, _≤_};
 ghost use lib.ListN.{length, take};
 ghost use Rattle.page.specs.Pieces.{held};
 ghost use Rattle.page.specs.Puts.{putting, «put-leaves»};
-ghost use Rattle.order.specs.Fills.{«pair-value», «amounts-at», «said-of», Spells, AllPut, Filled};
-
-// The number in two bytes of the file, the low one first.
-fn pair_at(file: &[u8], at: usize) -> u16
-    requires { ⌜ at + 2 ≤ length (now file) ⌝ }
-    ensures { λ r. ⌜ r ≡ «pair-value» (now (file .entry)) at ⌝ }
-{
-    u16::from(file[at]) + 256 * u16::from(file[at + 1])
-}
+ghost use Rattle.order.specs.Fills.{«amounts-at», «said-of», Spells, AllPut, Filled};
 
 // Makes the amounts of `count` filed pairs that stand in the file from place `from` on, at the front of the scratch.
 fn read_amounts<M: Filed>(m: &M, file: &[u8], from: usize, count: usize, scratch: &mut [M::Amount])
@@ -68,7 +61,15 @@ fn put_pieces<M: Filed>(
     for piece in 0..pieces {
         let count = usize::from(file[5 + usize::from(piece)]);
         read_amounts(m, file, pair_at, count, scratch);
-        put_piece(m, piece, &file[width_at..width_at + count], &scratch[0..count], page, width_table, amount_table)?;
+        put_piece(
+            m,
+            piece,
+            &file[width_at..width_at + count],
+            &scratch[0..count],
+            page,
+            width_table,
+            amount_table,
+        )?;
         width_at += count;
         pair_at += 4 * count;
     }
@@ -92,5 +93,13 @@ pub fn fill<M: Filed>(
     if scratch.len() < 8 {
         return Err(Fault::new(Refusal::Memory));
     }
-    put_pieces(m, file, figures.pieces, page, width_table, amount_table, scratch)
+    put_pieces(
+        m,
+        file,
+        figures.pieces,
+        page,
+        width_table,
+        amount_table,
+        scratch,
+    )
 }

@@ -13,9 +13,9 @@ use Rattle.std.proofs.shelf.Lists.{at-drop-more}
 use Rattle.std.proofs.shelf.Ways.{tells, leb-tells, eqb-tells}
 use Rattle.fault.specs.declared.refusal.Refusal.the-variants.{Width, Amount}
 use Rattle.fault.specs.declared.refusal.Fault.{Fault}
-use Rattle.fault.specs.Faults.{fault-at}
+use Rattle.fault.specs.Faults.{fault-at, then}
 use Rattle.measure.specs.Measures.{Functions, better}
-use Rattle.page.specs.Puts.{then, counted, rising, improving, all-improving, tested, roomy}
+use Rattle.page.specs.Puts.{counted, rising, improving, all-improving, tested, roomy}
 
 -- a width that rises
 pub rises : (ws : List ℕ) (last i : ℕ) (r : Result (Unit {0}) Fault) → i < length ws → last < getD ws i 0 → getD ws i 0 ≤ 24 → r ≡ rising last i (drop i ws) → r ≡ rising (getD ws i 0) (i + 1) (drop (i + 1) ws)
@@ -47,9 +47,9 @@ roomy-ample n k u e = by (leb-tells 96 n) (leb-tells 96 k)
 
 -- settings that passed are 1 to 8, as many widths as amounts
 pub tested-count : {A : Type 0} (m : Functions A) (ws : List ℕ) (xs : List A) (u : Unit {0}) → tested m ws xs ≡ Ok u → (1 ≤ length ws) × ((length ws ≤ 8) × (length ws ≡ length xs))
-tested-count m ws xs u e = counts (length ws) (length xs) (then (rising 0 0 ws) (all-improving m xs)) e
+tested-count m ws xs u e = counts (length ws) (length xs) (λ _. then (rising 0 0 ws) (λ _. all-improving m xs)) e
   where
-    counts : (n k : ℕ) (next : Result (Unit {0}) Fault) → then (counted n k) next ≡ Ok u → (1 ≤ n) × ((n ≤ 8) × (n ≡ k))
+    counts : (n k : ℕ) (next : Unit {0} → Result (Unit {0}) Fault) → then (counted n k) next ≡ Ok u → (1 ≤ n) × ((n ≤ 8) × (n ≡ k))
     counts n k next e = by (leb-tells 1 n) (leb-tells n 8) (eqb-tells n k)
       where
         by : ((leb 1 n ≡ true) × (1 ≤ n)) ⊎ ((leb 1 n ≡ false) × (n < 1)) → ((leb n 8 ≡ true) × (n ≤ 8)) ⊎ ((leb n 8 ≡ false) × (8 < n)) → ((eqb n k ≡ true) × (n ≡ k)) ⊎ ((eqb n k ≡ false) × (n ≡ k → ⊥)) → (1 ≤ n) × ((n ≤ 8) × (n ≡ k))

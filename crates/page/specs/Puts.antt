@@ -9,16 +9,11 @@ use Rattle.std.specs.declared.result.Result.{Result}
 use Rattle.std.specs.declared.result.Result.the-variants.{Ok, Err}
 use Rattle.fault.specs.declared.refusal.Refusal.the-variants.{Breadth, SettingCount, Memory, Width, Amount, PageFull}
 use Rattle.fault.specs.declared.refusal.Fault.{Fault}
-use Rattle.fault.specs.Faults.{fault, fault-at}
+use Rattle.fault.specs.Faults.{fault, fault-at, then}
 use Rattle.fault.specs.Written.{overwrite}
 use Rattle.measure.specs.Measures.{Functions, better}
 use Rattle.measure.specs.Settings.{Setting, paired}
 use Rattle.page.specs.Pieces.{PageData, Held, empty, pieces}
-
--- a second test where the first passed
-abbrev pub then : {A B : Type 0} → Result A Fault → Result B Fault → Result B Fault
-then (Ok a) next = next
-then (Err e) next = Err e
 
 -- a breadth of 1 to 24
 abbrev pub opening : ℕ → Result (Unit {0}) Fault
@@ -48,7 +43,7 @@ counted widths amounts = cond (leb 1 widths && (leb widths 8 && eqb widths amoun
 
 -- the settings of a piece: their number, then all widths, then all amounts
 abbrev pub tested : {A : Type 0} → Functions A → List ℕ → List A → Result (Unit {0}) Fault
-tested m ws xs = then (counted (length ws) (length xs)) (then (rising 0 0 ws) (all-improving m xs))
+tested m ws xs = then (counted (length ws) (length xs)) (λ _. then (rising 0 0 ws) (λ _. all-improving m xs))
 
 -- settings tables of at least 96 places
 abbrev pub roomy : ℕ → ℕ → Result (Unit {0}) Fault
@@ -58,7 +53,7 @@ roomy widths amounts = cond (leb 96 widths && leb 96 amounts) (Ok tt) (Err (faul
 abbrev pub putting : {A : Type 0} → Functions A → Held A → List ℕ → List A → Result ℕ Fault
 putting m h ws xs =
     cond (ltb (h .page .count) 12)
-    (then (roomy (length (h .widths)) (length (h .amounts))) (then (tested m ws xs) (Ok (h .page .count))))
+    (then (roomy (length (h .widths)) (length (h .amounts))) (λ _. then (tested m ws xs) (λ _. Ok (h .page .count))))
     (Err (fault PageFull))
 
 -- the page with one piece more, its settings in the tables from place 8n on

@@ -1,5 +1,5 @@
 // A page: its record, and the calls that open it and put pieces on it.
 pub mod record;
-pub mod testing;
+mod testing;
 
 pub use record::Page;

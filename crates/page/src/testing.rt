@@ -51,7 +51,11 @@ fn test_amounts<M: Measure>(m: &M, amounts: &[M::Amount]) -> Result<(), Fault>
 }
 
 // The settings of a piece: their number, then all widths, then all amounts.
-pub fn test_settings<M: Measure>(m: &M, widths: &[u8], amounts: &[M::Amount]) -> Result<(), Fault>
+pub(crate) fn test_settings<M: Measure>(
+    m: &M,
+    widths: &[u8],
+    amounts: &[M::Amount],
+) -> Result<(), Fault>
     ensures { λ r. ⌜ r ≡ tested (functions (now (m .entry))) (now (widths .entry)) (now (amounts .entry)) ⌝ }
 {
     test_count(widths.len(), amounts.len())?;

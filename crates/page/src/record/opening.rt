@@ -11,7 +11,12 @@ impl Page {
     pub fn new() -> Page
         ensures { λ r. ⌜ «data-of» r ≡ empty 1 ⌝ }
     {
-        Page { breadth: 1, count: 0, settings: [0; 12], standing: 0 }
+        Page {
+            breadth: 1,
+            count: 0,
+            settings: [0; 12],
+            standing: 0,
+        }
     }
 
     // Makes the record an empty page of this breadth. A breadth of 0 or over 24 is refused, and the page stays as it was.
@@ -22,7 +27,12 @@ impl Page {
         if breadth < 1 || breadth > 24 {
             return Err(Fault::new(Refusal::Breadth));
         }
-        *self = Page { breadth, count: 0, settings: [0; 12], standing: 0 };
+        *self = Page {
+            breadth,
+            count: 0,
+            settings: [0; 12],
+            standing: 0,
+        };
         Ok(())
     }
 

@@ -42,9 +42,9 @@ pub returns-in-Break-at-2 : need.returns-in-Break-at-2
 returns-in-Break-at-2 c =
     let short = subst (λ w. length w ≤ 7) (sym (c .spaced-word .ensures)) (spaced-short (c .layer-layer .result)) in
     absurd (not-refused 0 _ _ _ _ _
-      (second (c .from .result) (c .in-Continue-at .at) (c .args .fault .place) (c .spaced-word .result .now) (c .args .line .now) _ _ _ _ (omega arith) (omega arith) short (c .if-line-lt80 .left)
-        (first (c .from .result) (c .args .line .now) _ _ (omega arith) (c .if-line-lt80 .left) (c .write-labelled .ensures)) (c .in-Continue-at .was tt) (c .write-labelled-2 .ensures))
-      (c .in-Break-at-2 .was tt))
+    (second (c .from .result) (c .in-Continue-at .at) (c .args .fault .place) (c .spaced-word .result .now) (c .args .line .now) _ _ _ _ (omega arith) (omega arith) short (c .if-line-lt80 .left)
+    (first (c .from .result) (c .args .line .now) _ _ (omega arith) (c .if-line-lt80 .left) (c .write-labelled .ensures)) (c .in-Continue-at .was tt) (c .write-labelled-2 .ensures))
+    (c .in-Break-at-2 .was tt))
 
 module _ (f : Fault) (n : ℕ) (word : List ℕ) (numbered : n ≡ number (f .refusal)) (layered : word ≡ spaced (layer (f .refusal))) where
   without : f .piece ≡ None → labelled (codes "refused ") n ++ labelled word (f .place) ≡ refusal-text f
@@ -63,7 +63,7 @@ pub returns-in-None : need.returns-in-None
 returns-in-None c =
     let short = subst (λ w. length w ≤ 7) (sym (c .spaced-word .ensures)) (spaced-short (c .layer-layer .result)) in
     let s = second (c .from .result) (c .in-Continue-at .at) (c .args .fault .place) (c .spaced-word .result .now) (c .args .line .now) _ _ _ _ (omega arith) (omega arith) short (c .if-line-lt80 .left)
-        (first (c .from .result) (c .args .line .now) _ _ (omega arith) (c .if-line-lt80 .left) (c .write-labelled .ensures)) (c .in-Continue-at .was tt) (c .write-labelled-2 .ensures) in
+    (first (c .from .result) (c .args .line .now) _ _ (omega arith) (c .if-line-lt80 .left) (c .write-labelled .ensures)) (c .in-Continue-at .was tt) (c .write-labelled-2 .ensures) in
     let e = without (c .args .fault) (c .from .result) (c .spaced-word .result .now) (c .from .ensures ∙ c .number-number .ensures) (c .spaced-word .ensures ∙ ap spaced (c .layer-layer .ensures)) (c .in-None .is) in
     let t = stood-written 80 0 _ _ _ _ (c .if-line-lt80 .left) (omega (arith, length-append (labelled (codes "refused ") (c .from .result)) (labelled (c .spaced-word .result .now) (c .args .fault .place)), labelled-short 20 (codes "refused ") (c .from .result) (omega arith) (omega arith) (omega arith), labelled-short 20 (c .spaced-word .result .now) (c .args .fault .place) (omega arith) (omega arith) (omega arith))) s in
     subst (λ r. Written 80 (refusal-text (c .args .fault)) (c .args .line .now) 0 (c .write-labelled-2 .last .out) r) (c .in-Continue-at-2 .was tt)
@@ -73,7 +73,7 @@ pub returns-in-Some : need.returns-in-Some
 returns-in-Some c =
     let short = subst (λ w. length w ≤ 7) (sym (c .spaced-word .ensures)) (spaced-short (c .layer-layer .result)) in
     let s = second (c .from .result) (c .in-Continue-at .at) (c .args .fault .place) (c .spaced-word .result .now) (c .args .line .now) _ _ _ _ (omega arith) (omega arith) short (c .if-line-lt80 .left)
-        (first (c .from .result) (c .args .line .now) _ _ (omega arith) (c .if-line-lt80 .left) (c .write-labelled .ensures)) (c .in-Continue-at .was tt) (c .write-labelled-2 .ensures) in
+    (first (c .from .result) (c .args .line .now) _ _ (omega arith) (c .if-line-lt80 .left) (c .write-labelled .ensures)) (c .in-Continue-at .was tt) (c .write-labelled-2 .ensures) in
     let e = with-piece (c .args .fault) (c .from .result) (c .spaced-word .result .now) (c .from .ensures ∙ c .number-number .ensures) (c .spaced-word .ensures ∙ ap spaced (c .layer-layer .ensures)) (c .in-Some .piece) (c .in-Some .is) in
     let a = labelled-short 3 (codes "refused ") (c .from .result) (omega arith) (omega (arith, c .from .ensures)) (omega arith) in
     let b = labelled-short 20 (c .spaced-word .result .now) (c .args .fault .place) (omega arith) (omega arith) (omega arith) in

@@ -14,9 +14,11 @@ pub sub-pair-at : need.sub-pair-at
 sub-pair-at g c = omega (arith, parts (c .args .file .now) (c .pre .0 .0) (c .pre .0 .1) .long, c .pre .0 .2, c .from-width-at .ensures)
 
 pub loop-piece-holds : need.loop-piece-holds
-loop-piece-holds g c =
-    (refl, λ o r. begun (g .M·Measure .functions (c .args .m .now)) (g .M·Filed .filing (c .args .m .now)) (c .args .file .now) o (held (c .args .page .now) (c .args .width-table .now) (c .args .amount-table .now)) (c .from-width-at .result) r
-      (omega (arith, c .pre .0 .2, first-byte (c .args .file .now) (c .pre .0 .0) (c .pre .0 .1), first-byte (c .args .file .now) o r, c .from-width-at .ensures)))
+loop-piece-holds g c = (
+  refl,
+  λ o r. begun (g .M·Measure .functions (c .args .m .now)) (g .M·Filed .filing (c .args .m .now)) (c .args .file .now) o (held (c .args .page .now) (c .args .width-table .now) (c .args .amount-table .now)) (c .from-width-at .result) r
+      (omega (arith, c .pre .0 .2, first-byte (c .args .file .now) (c .pre .0 .0) (c .pre .0 .1), first-byte (c .args .file .now) o r, c .from-width-at .ensures)),
+)
 
 pub index-file-from : need.index-file-from
 index-file-from g c =
@@ -58,13 +60,13 @@ returns-in-Break-put-piece g c o r =
     let n : c .from-count .result ≡ length (t .piece) = c .from-count .ensures ∙ ap (λ k. getD (c .args .file .now) (5 + k) 0) (c .from .ensures) ∙ t .count in
     let k : c .loop-piece .width-at + c .from-count .result - c .loop-piece .width-at ≡ length (t .piece) = omega (arith, n) in
     let ws : take (c .loop-piece .width-at + c .from-count .result - c .loop-piece .width-at) (drop (c .loop-piece .width-at) (c .args .file .now)) ≡ widths-of (t .piece) =
-      ap (λ j. take j (drop (c .loop-piece .width-at) (c .args .file .now))) k ∙ t .widths in
+    ap (λ j. take j (drop (c .loop-piece .width-at) (c .args .file .now))) k ∙ t .widths in
     let z : c .from-count .result - 0 ≡ c .from-count .result = omega arith in
     let xs : take (c .from-count .result - 0) (c .read-amounts .last .scratch) ≡ amounts-of f (t .piece) =
-      ap (λ j. take j (c .read-amounts .last .scratch)) z ∙ c .read-amounts .ensures ∙ ap (λ j. amounts-at f (c .args .file .now) (c .loop-piece .pair-at) j) n ∙ t .amounts in
+    ap (λ j. take j (c .read-amounts .last .scratch)) z ∙ c .read-amounts .ensures ∙ ap (λ j. amounts-at f (c .args .file .now) (c .loop-piece .pair-at) j) n ∙ t .amounts in
     let s = stepped (g .M·Measure .functions (c .args .m .now)) f (c .loop-piece .piece) (t .piece) (t .rest) h (c .put-piece .result) (held (c .put-piece .last .page) (c .put-piece .last .width-table) (c .put-piece .last .amount-table))
-      (c .put-piece .ensures .answer ∙ (λ i. said-of (c .loop-piece .piece) (putting (g .M·Measure .functions (c .args .m .now)) h (ws i) (xs i))))
-      (c .put-piece .ensures .leaves ∙ (λ i. put-leaves (c .put-piece .result) h (ws i) (xs i))) in
+    (c .put-piece .ensures .answer ∙ (λ i. said-of (c .loop-piece .piece) (putting (g .M·Measure .functions (c .args .m .now)) h (ws i) (xs i))))
+    (c .put-piece .ensures .leaves ∙ (λ i. put-leaves (c .put-piece .result) h (ws i) (xs i))) in
     let q = err-from-errBy (c .from-residual .result) (c .from-residual .ensures .1) in
     ap (λ x. record { answer = x; leaves = held (c .put-piece .last .page) (c .put-piece .last .width-table) (c .put-piece .last .amount-table) }) (q .1 ∙ ap Err (q .2))
     ∙ subst (λ x. Stepped (g .M·Measure .functions (c .args .m .now)) f (c .loop-piece .piece) (t .piece) (t .rest) h x (held (c .put-piece .last .page) (c .put-piece .last .width-table) (c .put-piece .last .amount-table))) (c .in-Break-put-piece .was tt) s
@@ -83,23 +85,25 @@ add-pair-at-in-loop-piece g c =
     omega (arith, n, t .pairs-in)
 
 pub loop-piece-again : need.loop-piece-again
-loop-piece-again g c =
-    (c .read-amounts .kept .scratch ∙ c .loop-piece .inv .0, λ o r.
-    let f = g .M·Filed .filing (c .args .m .now) in
-    let h = held (c .loop-piece .page) (c .loop-piece .width-table) (c .loop-piece .amount-table) in
-    let t = turn (g .M·Measure .functions (c .args .m .now)) (g .M·Filed .filing (c .args .m .now)) (c .args .file .now) o (held (c .args .page .now) (c .args .width-table .now) (c .args .amount-table .now)) (held (c .loop-piece .page) (c .loop-piece .width-table) (c .loop-piece .amount-table)) (c .loop-piece .piece) (c .loop-piece .width-at) (c .loop-piece .pair-at) (c .loop-piece .inv .1 o r) (omega (arith, c .pre .0 .2, first-byte (c .args .file .now) (c .pre .0 .0) (c .pre .0 .1), first-byte (c .args .file .now) o r)) in
-    let n : c .from-count .result ≡ length (t .piece) = c .from-count .ensures ∙ ap (λ k. getD (c .args .file .now) (5 + k) 0) (c .from .ensures) ∙ t .count in
-    let k : c .loop-piece .width-at + c .from-count .result - c .loop-piece .width-at ≡ length (t .piece) = omega (arith, n) in
-    let ws : take (c .loop-piece .width-at + c .from-count .result - c .loop-piece .width-at) (drop (c .loop-piece .width-at) (c .args .file .now)) ≡ widths-of (t .piece) =
+loop-piece-again g c = (
+  c .read-amounts .kept .scratch ∙ c .loop-piece .inv .0,
+  λ o r.
+      let f = g .M·Filed .filing (c .args .m .now) in
+      let h = held (c .loop-piece .page) (c .loop-piece .width-table) (c .loop-piece .amount-table) in
+      let t = turn (g .M·Measure .functions (c .args .m .now)) (g .M·Filed .filing (c .args .m .now)) (c .args .file .now) o (held (c .args .page .now) (c .args .width-table .now) (c .args .amount-table .now)) (held (c .loop-piece .page) (c .loop-piece .width-table) (c .loop-piece .amount-table)) (c .loop-piece .piece) (c .loop-piece .width-at) (c .loop-piece .pair-at) (c .loop-piece .inv .1 o r) (omega (arith, c .pre .0 .2, first-byte (c .args .file .now) (c .pre .0 .0) (c .pre .0 .1), first-byte (c .args .file .now) o r)) in
+      let n : c .from-count .result ≡ length (t .piece) = c .from-count .ensures ∙ ap (λ k. getD (c .args .file .now) (5 + k) 0) (c .from .ensures) ∙ t .count in
+      let k : c .loop-piece .width-at + c .from-count .result - c .loop-piece .width-at ≡ length (t .piece) = omega (arith, n) in
+      let ws : take (c .loop-piece .width-at + c .from-count .result - c .loop-piece .width-at) (drop (c .loop-piece .width-at) (c .args .file .now)) ≡ widths-of (t .piece) =
       ap (λ j. take j (drop (c .loop-piece .width-at) (c .args .file .now))) k ∙ t .widths in
-    let z : c .from-count .result - 0 ≡ c .from-count .result = omega arith in
-    let xs : take (c .from-count .result - 0) (c .read-amounts .last .scratch) ≡ amounts-of f (t .piece) =
+      let z : c .from-count .result - 0 ≡ c .from-count .result = omega arith in
+      let xs : take (c .from-count .result - 0) (c .read-amounts .last .scratch) ≡ amounts-of f (t .piece) =
       ap (λ j. take j (c .read-amounts .last .scratch)) z ∙ c .read-amounts .ensures ∙ ap (λ j. amounts-at f (c .args .file .now) (c .loop-piece .pair-at) j) n ∙ t .amounts in
-    let s = stepped (g .M·Measure .functions (c .args .m .now)) f (c .loop-piece .piece) (t .piece) (t .rest) h (c .put-piece .result) (held (c .put-piece .last .page) (c .put-piece .last .width-table) (c .put-piece .last .amount-table))
+      let s = stepped (g .M·Measure .functions (c .args .m .now)) f (c .loop-piece .piece) (t .piece) (t .rest) h (c .put-piece .result) (held (c .put-piece .last .page) (c .put-piece .last .width-table) (c .put-piece .last .amount-table))
       (c .put-piece .ensures .answer ∙ (λ i. said-of (c .loop-piece .piece) (putting (g .M·Measure .functions (c .args .m .now)) h (ws i) (xs i))))
       (c .put-piece .ensures .leaves ∙ (λ i. put-leaves (c .put-piece .result) h (ws i) (xs i))) in
-    subst (λ j. Stage (g .M·Measure .functions (c .args .m .now)) f (c .args .file .now) o (held (c .args .page .now) (c .args .width-table .now) (c .args .amount-table .now)) (held (c .put-piece .last .page) (c .put-piece .last .width-table) (c .put-piece .last .amount-table)) (c .loop-piece .piece + 1) (c .loop-piece .width-at + j) (c .loop-piece .pair-at + 4 * j)) (sym n)
-    (t .then _ (subst (λ x. Stepped (g .M·Measure .functions (c .args .m .now)) f (c .loop-piece .piece) (t .piece) (t .rest) h x (held (c .put-piece .last .page) (c .put-piece .last .width-table) (c .put-piece .last .amount-table))) (c .in-Continue-put-piece .was tt) s)))
+      subst (λ j. Stage (g .M·Measure .functions (c .args .m .now)) f (c .args .file .now) o (held (c .args .page .now) (c .args .width-table .now) (c .args .amount-table .now)) (held (c .put-piece .last .page) (c .put-piece .last .width-table) (c .put-piece .last .amount-table)) (c .loop-piece .piece + 1) (c .loop-piece .width-at + j) (c .loop-piece .pair-at + 4 * j)) (sym n)
+      (t .then _ (subst (λ x. Stepped (g .M·Measure .functions (c .args .m .now)) f (c .loop-piece .piece) (t .piece) (t .rest) h x (held (c .put-piece .last .page) (c .put-piece .last .width-table) (c .put-piece .last .amount-table))) (c .in-Continue-put-piece .was tt) s)),
+)
 
 pub keeps-scratch : need.keeps-scratch
 keeps-scratch g c = c .loop-piece .inv .0

@@ -26,6 +26,6 @@ returns c =
     let first = stood 80 0 (labelled (codes "pieces ") (c .from .result)) (c .args .line .now) _ _ room (omega arith) (c .write-labelled .ensures) in
     let both = stood-more 80 0 (c .in-Continue-at .at) _ (labelled (codes " breadth ") (c .from-2 .result)) (c .args .line .now) _ _ _ _ room (omega arith) first (c .in-Continue-at .was tt) (c .write-labelled-2 .ensures) in
     let e : labelled (codes "pieces ") (c .from .result) ++ labelled (codes " breadth ") (c .from-2 .result) ≡ heading (c .args .page .now .count) (c .args .page .now .breadth) =
-      (λ i. labelled (codes "pieces ") ((c .from .ensures ∙ c .count .ensures) i) ++ labelled (codes " breadth ") ((c .from-2 .ensures ∙ c .breadth .ensures) i)) in
+    (λ i. labelled (codes "pieces ") ((c .from .ensures ∙ c .count .ensures) i) ++ labelled (codes " breadth ") ((c .from-2 .ensures ∙ c .breadth .ensures) i)) in
     subst (λ t. Written 80 t (c .args .line .now) 0 (c .write-labelled-2 .last .out) (c .write-labelled-2 .result)) e
     (stood-written 80 0 _ _ _ _ room (omega arith) both)

@@ -26,6 +26,6 @@ returns c =
     let both = stood-more 16 (c .args .at) (c .in-Continue-behind .behind) _ (labelled (codes "+") (c .from-2 .result)) (c .args .out .now) _ _ _ _ room (omega arith) first (c .in-Continue-behind .was tt) (c .write-labelled-2 .ensures) in
     let long = length-append (labelled [] (c .from .result)) (labelled (codes "+") (c .from-2 .result)) in
     let e : labelled [] (c .from .result) ++ labelled (codes "+") (c .from-2 .result) ≡ labelled [] (c .args .a .marks) ++ labelled (codes "+") (c .args .a .depth) =
-      (λ i. labelled [] (c .from .ensures i) ++ labelled (codes "+") (c .from-2 .ensures i)) in
+    (λ i. labelled [] (c .from .ensures i) ++ labelled (codes "+") (c .from-2 .ensures i)) in
     subst (λ t. Written 16 t (c .args .out .now) (c .args .at) (c .write-labelled-2 .last .out) (c .write-labelled-2 .result)) e
     (stood-written 16 (c .args .at) _ _ _ _ room (omega arith) both)
