@@ -1,5 +1,6 @@
 -- Laws of text laid over a part of a list, and of decimal digits.
 use mathlib.Core.Path.{_≡_, refl, sym, ap, _∙_}
+use mathlib.Core.Logic.{_⊎_, inl, inr}
 use mathlib.Core.List.{List, [], _∷_, _++_}
 use mathlib.Core.Bool.{true, false, cond}
 use Prim.Native.Nat.{ℕ, suc, _+_, _/_, _%_, _^_, _≤_, _<_}
@@ -12,6 +13,7 @@ use Rattle.std.proofs.shelf.Decimals.{decimal-digit, decimal-step, length-decim
 use Rattle.std.specs.declared.result.Result.{Result}
 use Rattle.std.specs.declared.result.Result.the-variants.{Ok, Err}
 use Rattle.std.proofs.shelf.Tests.{le-leb, lt-leb}
+use Rattle.std.proofs.shelf.Ways.{leb-tells}
 use Rattle.fault.specs.declared.refusal.Refusal.the-variants.{Memory}
 use Rattle.fault.specs.declared.refusal.Fault.{Fault}
 use Rattle.fault.specs.Faults.{fault}
@@ -99,3 +101,11 @@ stood-written room base xs before after r h short s = let b = le-leb (base + roo
 
 pub labelled-short : (k : ℕ) (label : List ℕ) (n : ℕ) → 0 < k → n < 10 ^ k → n < 2 ^ 64 → length (labelled label n) ≤ length label + k
 labelled-short k label n p h f = omega (arith, length-append label (decimal n), length-decimal-le k n p h f)
+
+-- what was answered with a place was written there
+pub written-ok : {A : Type 0} (room : ℕ) (xs before : List A) (at : ℕ) (after : List A) (r : Result ℕ Fault) (end : ℕ) → Written room xs before at after r → r ≡ Ok end → (at + room ≤ length before) × ((end ≡ at + length xs) × (after ≡ overwrite at xs before))
+written-ok room xs before at after r end w e = by (leb-tells (at + room) (length before))
+  where
+    by : ((leb (at + room) (length before) ≡ true) × (at + room ≤ length before)) ⊎ ((leb (at + room) (length before) ≡ false) × (length before < at + room)) → (at + room ≤ length before) × ((end ≡ at + length xs) × (after ≡ overwrite at xs before))
+    by (inl p) = let a : r ≡ Ok (at + length xs) = w .answer ∙ rw (p .0) in (p .1, (cc, w .memory ∙ rw (p .0)))
+    by (inr p) = let a : r ≡ Err (fault Memory) = w .answer ∙ rw (p .0) in let z : _≡_ {A = ℕ} 0 1 = cc in absurd (omega arith)
