@@ -4,4 +4,6 @@ mod measures;
 #[cfg(test)]
 mod orders;
 #[cfg(test)]
+mod piles;
+#[cfg(test)]
 mod sample;

@@ -139,3 +139,101 @@ fn marks_come_before_lines() -> Result<(), Fail> {
         ],
     )
 }
+
+// A gap of 3 lines, and one of 4000 marks and a line; only what is above is spaced.
+#[test]
+fn gutters_space_what_is_above() -> Result<(), Fail> {
+    let lines = Gutter {
+        lower: Depth,
+        gap: 3,
+    };
+    makes_cells(
+        &lines,
+        &[(0, None), (1, Some(1)), (2000, Some(2000)), (2001, None)],
+    )?;
+    cuts(
+        &lines,
+        &[
+            (1, 1, Some(1), Some(5)),
+            (0, 0, Some(0), Some(3)),
+            (4, 9, Some(9), Some(16)),
+            (65532, 0, Some(65532), Some(65535)),
+            (65533, 0, Some(65533), Some(65535)),
+        ],
+    )?;
+    ranks(&lines, &[(0, 1), (0, 65535)])?;
+    let marks = Gutter {
+        lower: Marked,
+        gap: marked(4000, 1),
+    };
+    cuts(
+        &marks,
+        &[
+            (
+                marked(3000, 2),
+                marked(2999, 3),
+                Some(marked(5999, 3)),
+                Some(marked(9999, 6)),
+            ),
+            (
+                marked(3000, 2),
+                marked(3000, 3),
+                Some(marked(6000, 3)),
+                None,
+            ),
+            (marked(6000, 2), marked(0, 3), Some(marked(6000, 3)), None),
+        ],
+    )
+}
+
+// A limit of 10 lines, and one of 5 marks and 10 lines; the limit itself is allowed, and ranks are as below.
+#[test]
+fn ceilings_give_nothing_worse() -> Result<(), Fail> {
+    let lines = Ceiling {
+        lower: Depth,
+        limit: 10,
+    };
+    makes_cells(
+        &lines,
+        &[(0, None), (1, Some(1)), (10, Some(10)), (11, None)],
+    )?;
+    cuts(
+        &lines,
+        &[
+            (5, 5, Some(5), Some(10)),
+            (5, 6, Some(6), None),
+            (10, 0, Some(10), Some(10)),
+            (11, 0, None, None),
+            (0, 11, None, None),
+            (65535, 65535, None, None),
+        ],
+    )?;
+    ranks(&lines, &[(0, 1), (10, 11), (11, 12)])?;
+    let marks = Ceiling {
+        lower: Marked,
+        limit: marked(5, 10),
+    };
+    makes_cells(
+        &marks,
+        &[
+            (marked(4, 2000), Some(marked(4, 2000))),
+            (marked(4, 2001), None),
+            (marked(5, 10), Some(marked(5, 10))),
+            (marked(5, 11), None),
+            (marked(6, 1), None),
+        ],
+    )?;
+    cuts(
+        &marks,
+        &[
+            (
+                marked(2, 99),
+                marked(2, 99),
+                Some(marked(4, 99)),
+                Some(marked(4, 198)),
+            ),
+            (marked(2, 5), marked(3, 6), Some(marked(5, 6)), None),
+            (marked(3, 1), marked(3, 1), None, None),
+        ],
+    )
+}

@@ -3,3 +3,4 @@ pub mod Settings
 pub mod Products
 pub mod Filing
 pub mod Why
+pub mod Examples

@@ -3,3 +3,4 @@ pub mod Told
 pub mod Format
 pub mod Fills
 pub mod Headings
+pub mod Examples

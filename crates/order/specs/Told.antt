@@ -3,7 +3,7 @@ use mathlib.Core.Path.{_≡_}
 use mathlib.Core.Logic.{_⊎_}
 use mathlib.Core.List.{List, _∷_, _++_}
 use Prim.Native.Nat.{ℕ, _+_, _≤_, _<_}
-use lib.ListN.{length, take}
+use lib.ListN.{length, take, getD}
 use Rattle.std.specs.Joined.{joined}
 use Rattle.std.specs.shelf.Lists.{All}
 use Rattle.std.specs.declared.result.Result.{Result}
@@ -55,3 +55,7 @@ pub record Settled (file : List ℕ) (r : Result Figures Fault) : Type 0 where
 -- a file has at most one reading
 abbrev pub OneReading : Type 0
 OneReading = (file : List ℕ) (o p : Order) → Reads file o → Reads file p → o ≡ p
+
+-- exactly one of the four outcomes holds of every file, whatever its bytes are
+abbrev pub OneOutcome : Type 0
+OneOutcome = (file : List ℕ) → ((i : ℕ) → getD file i 0 < 256) → (r : Result Figures Fault) × Settled file r

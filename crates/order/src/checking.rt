@@ -9,7 +9,7 @@ ghost use Rattle.std.specs.declared.result.Result.the-variants.{Ok};
 ghost use Rattle.fault.specs.Faults.{then};
 ghost use Rattle.order.specs.Format.{Format, done, «number-at», «figure-at», run, «head-first», counts, widths, pairs};
 ghost use Rattle.order.specs.Order.{byte, pair};
-ghost use Rattle.order.specs.Told.{OneReading, Settled};
+ghost use Rattle.order.specs.Told.{OneOutcome, OneReading, Settled};
 
 // The byte at a place, from `low` to `high`.
 fn byte_figure(file: &[u8], at: usize, low: u8, high: u8) -> Result<u8, Fault>
@@ -129,4 +129,9 @@ pub fn check(file: &[u8]) -> Result<Figures, Fault>
 // A file has at most one reading as an order.
 pub fn one_reading()
     ensures { λ _. ⌜ OneReading ⌝ }
+{}
+
+// Exactly one outcome of a check holds of every file.
+pub fn one_outcome()
+    ensures { λ _. ⌜ OneOutcome ⌝ }
 {}

@@ -5,6 +5,7 @@ pub mod head;
 pub mod headings;
 
 pub use checking::check;
+pub use checking::one_outcome;
 pub use checking::one_reading;
 pub use filling::fill;
 pub use head::Figures;

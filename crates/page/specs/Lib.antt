@@ -1,3 +1,4 @@
 pub mod Sound
 pub mod Pieces
 pub mod Puts
+pub mod Examples
