@@ -1,16 +1,12 @@
-// Measures: what each makes of amounts, alone and in piles.
+// Measures: what each makes of amounts.
 use measure::Ceiling;
-use measure::CeilingFiled;
 use measure::CeilingMeasure;
 use measure::Depth;
-use measure::DepthFiled;
 use measure::DepthMeasure;
 use measure::Gutter;
-use measure::GutterFiled;
 use measure::GutterMeasure;
 use measure::Marked;
 use measure::MarkedDepth;
-use measure::MarkedFiled;
 use measure::MarkedMeasure;
 use measure::Measure;
 use measure::better;
@@ -43,7 +39,7 @@ fn cuts<A: Copy + PartialEq<A> + Debug, M: Measure<Amount = A>>(
     Ok(())
 }
 
-// In each row every amount is better than the next, and both are no worse than themselves.
+// In each row the first amount is better than the second, and no worse than itself.
 fn ranks<A: Copy + PartialEq<A> + Debug, M: Measure<Amount = A>>(
     m: &M,
     cases: &[(A, A)],

@@ -138,14 +138,13 @@ fn the_first_fault_is_answered() -> Result<(), Fail> {
     let mut many_marks = SAMPLE;
     many_marks[40] = 255;
     let cases = [
-        // no breadth, and an early end
+        // no breadth or too much of it, and an early end
         (&[3, 0][..], Refusal::FigureOutOfRange, 1),
         (&[3, 25][..], Refusal::FigureOutOfRange, 1),
-        // no pieces, too broad and an early end
+        // no pieces, too much breadth and an early end
         (&[0, 25][..], Refusal::FigureOutOfRange, 0),
-        // half a ceiling of none
+        // half a ceiling of none, and a whole one
         (&[3, 4, 0, 0][..], Refusal::FileEndsEarly, 4),
-        // a ceiling of none
         (&[3, 4, 0, 0, 0][..], Refusal::FigureOutOfRange, 3),
         // nine settings, and an early end
         (&[3, 4, 0, 40, 0, 2, 9][..], Refusal::FigureOutOfRange, 6),
@@ -194,6 +193,7 @@ fn longest_and_a_byte() -> [u8; 498] {
     file
 }
 
+// The longest good file: with a byte more it goes on, and with any fewer bytes it ends early.
 #[test]
 fn the_longest_good_file() -> Result<(), Fail> {
     let file = longest_and_a_byte();

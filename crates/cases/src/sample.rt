@@ -1,55 +1,13 @@
-// The sample order file: three pieces, of 2, 2 and 3 settings, for a page of 4 columns.
+// The sample order file.
 use order::Figures;
 
-pub(crate) const SAMPLE: [u8; 43] = [
-    // pieces, breadth, gutter, ceiling
-    3,
-    4,
-    0,
-    40,
-    0, //
-    // settings of each piece
-    2,
-    2,
-    3, //
-    // widths
-    1,
-    2,
-    1,
-    2,
-    1,
-    2,
-    3, //
-    // marks and depth of each setting
-    0,
-    0,
-    2,
-    0, //
-    0,
-    0,
-    1,
-    0, //
-    0,
-    0,
-    2,
-    0, //
-    0,
-    0,
-    1,
-    0, //
-    0,
-    0,
-    3,
-    0, //
-    0,
-    0,
-    2,
-    0, //
-    0,
-    0,
-    1,
-    0,
-];
+// Pieces, breadth, gutter and ceiling; the settings of each piece; their widths, piece by piece; the marks and the depth of each.
+pub(crate) const SAMPLE: [u8; 43] = *b"\x03\x04\x00\x28\x00\
+    \x02\x02\x03\
+    \x01\x02\x01\x02\x01\x02\x03\
+    \x00\x00\x02\x00\x00\x00\x01\x00\
+    \x00\x00\x02\x00\x00\x00\x01\x00\
+    \x00\x00\x03\x00\x00\x00\x02\x00\x00\x00\x01\x00";
 
 // The figures at its head.
 pub(crate) const HEAD: Figures = Figures {

@@ -104,10 +104,11 @@ module _ (file : List ℕ) (r : Result Figures Fault) (settled : Settled file r)
     }
 
 -- the line of what stands on the page
-pub replied-told : (file : List ℕ) (scratch : ℕ) (h k : Held ℕ) (before after : List ℕ) (end : ℕ) → Summed file scratch h k before after (Ok end) → Replied file scratch h before after (record { accepted = true; end = end })
+pub replied-told : (file : List ℕ) (scratch : ℕ) (h k : Held ℕ) (before after : List ℕ) (end : ℕ) → Summed file scratch h k before after (Ok end) → Replied file scratch h k before after (record { accepted = true; end = end })
 replied-told file scratch h k before after end s = record {
   refused = λ e t. absurd (unlike (s .refused e t .0));
-  read = λ o reads. by (scrolled o scratch h .answer) (o .breadth) (s .line o reads);
+  leaves = s .leaves;
+  line = λ o reads. by (scrolled o scratch h .answer) (o .breadth) (s .line o reads);
   short = s .short end refl;
 }
   where
@@ -116,14 +117,15 @@ replied-told file scratch h k before after end s = record {
     by (Err e) breadth w = absurd (unlike (w .0))
 
 -- the line of the refusal
-pub replied-refused : (file : List ℕ) (scratch : ℕ) (h k : Held ℕ) (before middle after : List ℕ) (x : Fault) (s : Result ℕ Fault) (end : ℕ) → 80 ≤ length before → Summed file scratch h k before middle (Err x) → Written 80 (refusal-text x) middle 0 after s → s ≡ Ok end → Replied file scratch h before after (record { accepted = false; end = end })
+pub replied-refused : (file : List ℕ) (scratch : ℕ) (h k : Held ℕ) (before middle after : List ℕ) (x : Fault) (s : Result ℕ Fault) (end : ℕ) → 80 ≤ length before → Summed file scratch h k before middle (Err x) → Written 80 (refusal-text x) middle 0 after s → s ≡ Ok end → Replied file scratch h k before after (record { accepted = false; end = end })
 replied-refused file scratch h k before middle after x s end room sum w is =
     let v = written-ok 80 (refusal-text x) middle 0 after s end w is in
     let says : middle ≡ before → Says false (refusal-text x) before after (record { accepted = false; end = end }) =
     λ same. record { told = refl; length-of = v .1 .0 ∙ omega arith; memory = v .1 .1 ∙ ap (overwrite 0 (refusal-text x)) same } in
     record {
-      refused = λ e t. (let r = sum .refused e t in subst (λ f. Says false (refusal-text f) before after (record { accepted = false; end = end })) (same-err (r .0)) (says (r .1 .1)));
-      read = λ o reads. by (scrolled o scratch h .answer) (o .breadth) says (sum .line o reads);
+      refused = λ e t. (let r = sum .refused e t in (r .1 .0, subst (λ f. Says false (refusal-text f) before after (record { accepted = false; end = end })) (same-err (r .0)) (says (r .1 .1))));
+      leaves = sum .leaves;
+      line = λ o reads. by (scrolled o scratch h .answer) (o .breadth) says (sum .line o reads);
       short = omega (arith, v .1 .0, w .within (v .0));
     }
   where

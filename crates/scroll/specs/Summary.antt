@@ -54,7 +54,8 @@ SaysOf (Ok n) breadth before after r = Says true (heading n breadth) before afte
 SaysOf (Err e) breadth before after r = Says false (refusal-text e) before after r
 
 -- every file gets its line, of at most 80 bytes: that of its order's page, or that of the refusal
-pub record Replied (file : List ℕ) (scratch : ℕ) (h : Held ℕ) (before after : List ℕ) (r : Reply) : Type 0 where
-  pub refused : (e : Fault) → Told file (Err e) → Says false (refusal-text e) before after r
-  pub read : (o : Order) → Reads file o → SaysOf (scrolled o scratch h .answer) (o .breadth) before after r
+pub record Replied (file : List ℕ) (scratch : ℕ) (h k : Held ℕ) (before after : List ℕ) (r : Reply) : Type 0 where
+  pub refused : (e : Fault) → Told file (Err e) → (k ≡ h) × Says false (refusal-text e) before after r
+  pub leaves : (o : Order) → Reads file o → k ≡ scrolled o scratch h .leaves
+  pub line : (o : Order) → Reads file o → SaysOf (scrolled o scratch h .answer) (o .breadth) before after r
   pub short : r .end ≤ 80

@@ -3,6 +3,8 @@
 mod input;
 mod replying;
 mod summary;
+#[cfg(test)]
+mod tests;
 
 use input::read_order;
 use page::Page;

@@ -1,4 +1,5 @@
 use mathlib.Core.Path.{_∙_, ap}
+use native.Mathlib.Omega.{arith}
 use lib.ListN.{length}
 use Rattle.page.specs.Pieces.{held}
 use Rattle.scroll.proofs.Sums.{replied-told, replied-refused}
@@ -10,4 +11,4 @@ returns-in-Ok c = replied-told (c .args .file .now) (length (c .args .scratch .n
 pub returns-in-Err : need.returns-in-Err
 returns-in-Err c =
     replied-refused (c .args .file .now) (length (c .args .scratch .now)) _ _ (c .args .line .now) (c .summarize .last .line) _ (c .in-Err .fault) (c .refusal-line .result) (c .unwrap .result)
-    (c .pre) (c .in-Err .ensures tt) (c .refusal-line .ensures) (c .unwrap .ensures)
+    (omega arith) (c .in-Err .ensures tt) (c .refusal-line .ensures) (c .unwrap .ensures)
