@@ -100,7 +100,7 @@ pub record Turn {A : Type 0} (m : Functions A) (f : Filing A) (file : List ℕ) 
   pub amounts : amounts-at f file pair-at (length piece) ≡ amounts-of f piece
   pub then : (h′ : Held A) → filling m f k (piece ∷ rest) h ≡ filling m f (k + 1) rest h′ → Stage m f file o start h′ (k + 1) (width-at + length piece) (pair-at + 4 * length piece)
 
-module _ {A : Type 0} (m : Functions A) (f : Filing A) (file : List ℕ) (o : Order) (start h : Held A) (k width-at pair-at : ℕ) where
+module _ {A : Type 0} {m : Functions A} {f : Filing A} {file : List ℕ} {o : Order} {start h : Held A} {k width-at pair-at : ℕ} where
   turn-of : (left : List (List FiledSetting)) → filling m f 0 (o .pieces) start ≡ filling m f k left h → k + length left ≡ length (o .pieces) → k < length (o .pieces) →
       All (λ (p : List FiledSetting). (1 ≤ length p) × (length p ≤ 8)) left → (ct : List ℕ) → drop (5 + k) file ≡ map (λ (p : List FiledSetting). length p) left ++ ct →
       (wt : List ℕ) → drop width-at file ≡ widths-of (flat left) ++ wt → drop pair-at file ≡ pair-bytes (flat left) → Turn m f file o start h k width-at pair-at
@@ -208,8 +208,11 @@ begun m f file o h n r e =
     }
 
 -- the first byte of a good file is the number of pieces
-pub first-byte : (file : List ℕ) (o : Order) → Reads file o → getD file 0 0 ≡ length (o .pieces)
+first-byte : (file : List ℕ) (o : Order) → Reads file o → getD file 0 0 ≡ length (o .pieces)
 first-byte file o r = ap (λ l. getD l 0 0) (sym (r .spells))
+
+pub same-number : (file : List ℕ) (o p : Order) → Reads file o → Reads file p → length (o .pieces) ≡ length (p .pieces)
+same-number file o p r s = sym (first-byte file o r) ∙ first-byte file p s
 
 module _ {A : Type 0} (m : Functions A) (f : Filing A) (k : ℕ) (p : List FiledSetting) (rest : List (List FiledSetting)) (h : Held A) where
   -- what a put of the next piece makes of the fill
@@ -227,6 +230,59 @@ module _ {A : Type 0} (m : Functions A) (f : Filing A) (k : ℕ) (p : List Filed
       by (Err x) e a l =
           let l′ : h′ ≡ h = l ∙ ap (λ q. put-leaves q h (widths-of p) (amounts-of f p)) a in
           subst (λ q. Stepped q h′) (sym a) (ap (λ (g : Held A). record { answer = Err (of-piece k x); leaves = g }) l′ ∙ ap (λ q. go-on q k h (filling m f (k + 1) rest (with-piece h (widths-of p) (amounts-of f p)))) (sym e))
+
+-- where the next piece lies in the file, by its number of settings
+pub record Lies (file : List ℕ) (k width-at pair-at count : ℕ) : Type 0 where
+  pub few : count ≤ 8
+  pub counted : 5 + k < length file
+  pub widths : width-at + count ≤ length file
+  pub pairs : pair-at + 4 * count ≤ length file
+
+-- what a put of the next piece, of so many settings, makes of a stage: the next one, or the end of the fill
+abbrev pub Next : {A : Type 0} → Functions A → Filing A → List ℕ → Order → Held A → Held A → (k width-at pair-at count : ℕ) → Result ℕ Fault → Type 0
+Next m f file o start h k width-at pair-at count (Ok n) = Stage m f file o start h (k + 1) (width-at + count) (pair-at + 4 * count)
+Next m f file o start h k width-at pair-at count (Err e) = record { answer = Err e; leaves = h } ≡ filling m f 0 (o .pieces) start
+
+module _ {A : Type 0} {m : Functions A} {f : Filing A} {file : List ℕ} {o : Order} {start h : Held A} {k width-at pair-at : ℕ} (s : Stage m f file o start h k width-at pair-at) (more : k < length (o .pieces)) where
+  pub next-counted : 5 + k < length file
+  next-counted = turn s more .count-in
+
+  pub next-lies : (count : ℕ) → count ≡ getD file (5 + k) 0 → Lies file k width-at pair-at count
+  next-lies count e =
+      let t = turn s more in
+      let n : count ≡ length (t .piece) = e ∙ t .count in
+      record { few = omega (arith, n, t .few); counted = t .count-in; widths = omega (arith, n, t .widths-in); pairs = omega (arith, n, t .pairs-in) }
+
+  -- the piece's widths are a part of the file, its amounts the front of the scratch
+  pub next-put : (count : ℕ) → count ≡ getD file (5 + k) 0 → (scratch : List A) → take count scratch ≡ amounts-at f file pair-at count → (r : Result ℕ Fault) (h′ : Held A) →
+      r ≡ said-of k (putting m h (take (width-at + count - width-at) (drop width-at file)) (take (count - 0) scratch)) →
+      h′ ≡ put-leaves r h (take (width-at + count - width-at) (drop width-at file)) (take (count - 0) scratch) → (q : Result ℕ Fault) → r ≡ q → Next m f file o start h′ k width-at pair-at count q
+  next-put count e scratch made r h′ answer leaves q is = subst (Next m f file o start h′ k width-at pair-at count) is (by r (stepped m f k p (t .rest) h r h′ answer′ leaves′))
+    where
+      t : Turn m f file o start h k width-at pair-at
+      t = turn s more
+
+      p : List FiledSetting
+      p = t .piece
+
+      n : count ≡ length p
+      n = e ∙ t .count
+
+      ws : take (width-at + count - width-at) (drop width-at file) ≡ widths-of p
+      ws = (let z : width-at + count - width-at ≡ length p = omega (arith, n) in ap (λ j. take j (drop width-at file)) z ∙ t .widths)
+
+      xs : take (count - 0) scratch ≡ amounts-of f p
+      xs = (let z : count - 0 ≡ count = omega arith in ap (λ j. take j scratch) z ∙ made ∙ ap (amounts-at f file pair-at) n ∙ t .amounts)
+
+      answer′ : r ≡ said-of k (putting m h (widths-of p) (amounts-of f p))
+      answer′ = answer ∙ (λ i. said-of k (putting m h (ws i) (xs i)))
+
+      leaves′ : h′ ≡ put-leaves r h (widths-of p) (amounts-of f p)
+      leaves′ = leaves ∙ (λ i. put-leaves r h (ws i) (xs i))
+
+      by : (q : Result ℕ Fault) → Stepped m f k p (t .rest) h q h′ → Next m f file o start h′ k width-at pair-at count q
+      by (Ok j) step = subst (λ c. Stage m f file o start h′ (k + 1) (width-at + c) (pair-at + 4 * c)) (sym n) (t .then h′ step)
+      by (Err x) step = step ∙ sym (t .fills)
 
 -- two outcomes of a check are one
 unlike : {X E : Type 0} {x : X} {e : E} → _≡_ {A = Result X E} (Ok x) (Err e) → ⊥

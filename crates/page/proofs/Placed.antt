@@ -9,7 +9,9 @@ use lib.ListN.{length, getD, set, take, drop}
 use Rattle.std.proofs.shelf.Lists.{length-take-le, length-drop, take-append-le, drop-append-le, take-append-drop, take-at, drop-at, getD-set-same, getD-set-other}
 use mathlib.Core.Bool.{cond}
 use lib.Dec.{leb, ltb}
+use Rattle.std.specs.declared.result.Result.{Result}
 use Rattle.std.specs.declared.result.Result.the-variants.{Ok}
+use Rattle.fault.specs.declared.refusal.Fault.{Fault}
 use Rattle.std.proofs.shelf.Tests.{le-leb, lt-ltb}
 use Rattle.fault.specs.Written.{overwrite}
 use Rattle.measure.specs.Measures.{Functions}
@@ -71,12 +73,14 @@ module _ {A : Type 0} where
 -- a piece that passed all tests and was written into the tables
 pub put-done : {A : Type 0} (m : Functions A) (p : Page) (ws : List ℕ) (xs : List A) (widths : List ℕ) (amounts : List A) (q : PageData) (widths′ : List ℕ) (amounts′ : List A) →
     q ≡ record { breadth = p .breadth; count = p .count + 1; settings = set (p .settings) (p .count) (length ws); standing = p .standing } →
-    p .count < 12 → roomy (length widths) (length amounts) ≡ Ok tt → tested m ws xs ≡ Ok tt → length (p .settings) ≡ 12 →
+    p .count < 12 → (rr tr : Result (Unit {0}) Fault) → rr ≡ roomy (length widths) (length amounts) → rr ≡ Ok tt → tr ≡ tested m ws xs → tr ≡ Ok tt → length (p .settings) ≡ 12 →
     widths′ ≡ cond (leb (8 * p .count + length ws) (length widths)) (overwrite (8 * p .count) ws widths) widths →
     amounts′ ≡ cond (leb (8 * p .count + length xs) (length amounts)) (overwrite (8 * p .count) xs amounts) amounts →
     Put m (held p widths amounts) ws xs (record { page = q; widths = widths′; amounts = amounts′ }) (Ok (p .count))
-put-done m p ws xs widths amounts q widths′ amounts′ e few roomy-ok tested-ok dozen we ae =
-    let t = tested-count m ws xs tt tested-ok in
+put-done m p ws xs widths amounts q widths′ amounts′ e few rr tr room ro test to dozen we ae =
+    let roomy-ok = sym room ∙ ro in
+    let tested-ok = sym test ∙ to in
+    let t = tested-count m ws xs tr tt test to in
     let r = roomy-ample (length widths) (length amounts) tt roomy-ok in
     let h = held p widths amounts in
     let wf = le-leb (8 * p .count + length ws) (length widths) (omega arith) in

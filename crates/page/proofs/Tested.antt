@@ -29,9 +29,17 @@ falls ws last i r h bad e =
     let s : rising last i (drop i ws) ≡ cond (ltb last (getD ws i 0) && leb (getD ws i 0) 24) (rising (getD ws i 0) (i + 1) (drop (i + 1) ws)) (Err (fault-at Width i)) = at-drop-more (rising last i) ws i 0 h in
     grind (arith, tells)
 
--- an amount, better than the last or not
-pub compared : {A : Type 0} (m : Functions A) (xs : List A) (last a : A) (i : ℕ) → i < length xs → a ≡ getD xs i a → improving m last i (drop i xs) ≡ cond (better m a last) (improving m a (i + 1) (drop (i + 1) xs)) (Err (fault-at Amount i))
-compared m xs last a i h e = at-drop-more (improving m last i) xs i a h ∙ rw (sym e)
+module _ {A : Type 0} (m : Functions A) (xs : List A) (last a : A) (i : ℕ) (r : Result (Unit {0}) Fault) (h : i < length xs) (here : a ≡ getD xs i a) (e : r ≡ improving m last i (drop i xs)) where
+  compared : r ≡ cond (better m a last) (improving m a (i + 1) (drop (i + 1) xs)) (Err (fault-at Amount i))
+  compared = e ∙ (at-drop-more (improving m last i) xs i a h ∙ rw (sym here))
+
+  -- an amount that is better than the last
+  pub improves : better m a last ≡ true → r ≡ improving m a (i + 1) (drop (i + 1) xs)
+  improves b = compared ∙ rw b
+
+  -- one that is not
+  pub worsens : better m a last ≡ false → r ≡ Err (fault-at Amount i)
+  worsens b = compared ∙ rw b
 
 -- a test that was refused did not pass
 refused : {f : Fault} {u : Unit {0}} → _≡_ {A = Result (Unit {0}) Fault} (Err f) (Ok u) → ⊥
@@ -46,8 +54,8 @@ roomy-ample n k u e = by (leb-tells 96 n) (leb-tells 96 k)
     by (inr p) _ = absurd (refused (simp (p .0) at e))
 
 -- settings that passed are 1 to 8, as many widths as amounts
-pub tested-count : {A : Type 0} (m : Functions A) (ws : List ℕ) (xs : List A) (u : Unit {0}) → tested m ws xs ≡ Ok u → (1 ≤ length ws) × ((length ws ≤ 8) × (length ws ≡ length xs))
-tested-count m ws xs u e = counts (length ws) (length xs) (λ _. then (rising 0 0 ws) (λ _. all-improving m xs)) e
+pub tested-count : {A : Type 0} (m : Functions A) (ws : List ℕ) (xs : List A) (r : Result (Unit {0}) Fault) (u : Unit {0}) → r ≡ tested m ws xs → r ≡ Ok u → (1 ≤ length ws) × ((length ws ≤ 8) × (length ws ≡ length xs))
+tested-count m ws xs r u t o = counts (length ws) (length xs) (λ _. then (rising 0 0 ws) (λ _. all-improving m xs)) (sym t ∙ o)
   where
     counts : (n k : ℕ) (next : Unit {0} → Result (Unit {0}) Fault) → then (counted n k) next ≡ Ok u → (1 ≤ n) × ((n ≤ 8) × (n ≡ k))
     counts n k next e = by (leb-tells 1 n) (leb-tells n 8) (eqb-tells n k)

@@ -8,7 +8,49 @@ use std::test::*;
 
 // Three pieces at breadth 4, gutter 0, ceiling 40.
 const SAMPLE: [u8; 43] = [
-    3, 4, 0, 40, 0, 2, 2, 3, 1, 2, 1, 2, 1, 2, 3, 0, 0, 2, 0, 0, 0, 1, 0, 0, 0, 2, 0, 0, 0, 1, 0, 0, 0, 3, 0, 0, 0, 2, 0, 0, 0, 1, 0,
+    3,
+    4,
+    0,
+    40,
+    0,
+    2,
+    2,
+    3,
+    1,
+    2,
+    1,
+    2,
+    1,
+    2,
+    3,
+    0,
+    0,
+    2,
+    0,
+    0,
+    0,
+    1,
+    0,
+    0,
+    0,
+    2,
+    0,
+    0,
+    0,
+    1,
+    0,
+    0,
+    0,
+    3,
+    0,
+    0,
+    0,
+    2,
+    0,
+    0,
+    0,
+    1,
+    0,
 ];
 
 // The line that is said of a file is this text, and the order is accepted or not.
@@ -18,7 +60,17 @@ fn says(file: &[u8], accepted: bool, text: &[u8]) -> Result<(), Fail> {
     let mut amounts = [0u16; 96];
     let mut scratch = [0u16; 8];
     let mut page = Page::new();
-    let Reply { accepted: told, end } = reply(file, &mut page, &mut widths, &mut amounts, &mut scratch, &mut line);
+    let Reply {
+        accepted: told,
+        end,
+    } = reply(
+        file,
+        &mut page,
+        &mut widths,
+        &mut amounts,
+        &mut scratch,
+        &mut line,
+    );
     check_eq(told, accepted)?;
     check_eq(&line[0..end], text)?;
     for i in end..80 {

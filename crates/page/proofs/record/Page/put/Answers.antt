@@ -1,7 +1,5 @@
-use mathlib.Core.Path.{_≡_, refl, sym, ap, subst, _∙_}
-use Prim.Native.Nat.{_≤_, _<_}
+use mathlib.Core.Path.{refl}
 use native.Mathlib.Omega.{arith}
-use lib.ListN.{length}
 use Rattle.page.proofs.Kept.{here-put, past-put, stands-put}
 use Rattle.page.proofs.Tested.{tested-count}
 use Rattle.page.proofs.Placed.{put-done}
@@ -10,11 +8,11 @@ use Rattle.page.proofs.record.Page.put.Needs as need
 pub ghost-self : need.ghost-self
 ghost-self g c =
     let p = c .args .self .now in
-    let t = tested-count (g .M·Measure .functions (c .args .m .now)) (c .args .widths .now) (c .args .amounts .now) tt (sym (c .test-settings .ensures) ∙ c .in-Continue-test-settings .was tt) in
+    let t = tested-count (g .M·Measure .functions (c .args .m .now)) (c .args .widths .now) (c .args .amounts .now) (c .test-settings .result) tt (c .test-settings .ensures) (c .in-Continue-test-settings .was tt) in
     (p .broad, (omega arith, (here-put (p .count) (p .settings) _ (omega arith) (t .0) (t .1 .0) (p .here), (past-put (p .count) (p .settings) _ (p .past), (stands-put (p .count) (p .standing) (p .stands), tt)))))
 
 pub returns : need.returns
 returns g c =
     put-done (g .M·Measure .functions (c .args .m .now)) (c .args .self .now) (c .args .widths .now) (c .args .amounts .now) (c .args .width-table .now) (c .args .amount-table .now) _ _ _
-    refl (c .if-self-ge12 .left) (sym (c .test-tables .ensures) ∙ c .in-Continue-test-tables .was tt) (sym (c .test-settings .ensures) ∙ c .in-Continue-test-settings .was tt)
+    refl (c .if-self-ge12 .left) (c .test-tables .result) (c .test-settings .result) (c .test-tables .ensures) (c .in-Continue-test-tables .was tt) (c .test-settings .ensures) (c .in-Continue-test-settings .was tt)
     (omega arith) (c .write-over .ensures .memory) (c .write-over-2 .ensures .memory)
