@@ -38,12 +38,15 @@ over = refl
 under : ceiling depth 7 .above 4 3 ≡ Some 7
 under = refl
 
--- the order of the layers matters: the gap may come to lie over the ceiling by itself
-gutter-inside : ceiling (gutter depth 3) 7 .above 2 2 ≡ Some 7
-gutter-inside = refl
+-- both layers, in either order: 2 lines, a gap of 3 and 2 lines under a ceiling of 7, and of 6
+ceiling-on-top : ceiling (gutter depth 3) 7 .above 2 2 ≡ Some 7
+ceiling-on-top = refl
 
-gutter-outside : gutter (ceiling depth 4) 3 .above 2 0 ≡ None
-gutter-outside = refl
+gutter-on-top : gutter (ceiling depth 7) 3 .above 2 2 ≡ Some 7
+gutter-on-top = refl
+
+both-over : gutter (ceiling depth 6) 3 .above 2 2 ≡ ceiling (gutter depth 3) 6 .above 2 2
+both-over = refl
 
 -- fewer marks first, and marks up to 9,999
 fewer-marks : better marked (of 0 9) (of 1 1) ≡ true
