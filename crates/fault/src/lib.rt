@@ -5,6 +5,7 @@ pub mod numbers;
 pub mod refusal;
 pub mod report;
 
+pub use lines::LINE_ROOM;
 pub use lines::refusal_line;
 pub use memory::has_room;
 pub use memory::write_over;

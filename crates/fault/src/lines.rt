@@ -7,6 +7,9 @@ ghost use mathlib.Core.Path.{_≡_};
 ghost use Rattle.fault.specs.Lines.{spaced, «refusal-text»};
 ghost use Rattle.fault.specs.Written.{Written};
 
+// The bytes that a printed line may take.
+pub const LINE_ROOM: usize = 80;
+
 // The layer's word between spaces.
 fn spaced_word(layer: Layer) -> &'static [u8]
     ensures { λ r. ⌜ now r ≡ spaced layer ⌝ }
@@ -23,7 +26,7 @@ fn spaced_word(layer: Layer) -> &'static [u8]
 pub fn refusal_line(fault: Fault, line: &mut [u8]) -> Result<usize, Fault>
     ensures { λ r. ⌜ Written 80 («refusal-text» fault) (now (line .entry)) 0 (now (line .exit)) r ⌝ }
 {
-    if line.len() < 80 {
+    if line.len() < LINE_ROOM {
         return Err(Fault::new(Refusal::Memory));
     }
     let number = fault.refusal.number();

@@ -9,7 +9,7 @@ use Rattle.std.specs.Joined.{joined}
 use Rattle.std.specs.shelf.Lists.{All}
 use Rattle.std.specs.declared.result.Result.{Result}
 use Rattle.std.specs.declared.result.Result.the-variants.{Ok, Err}
-use Rattle.std.proofs.shelf.Lists.{append-assoc, append-nil, take-more-set, take-at, drop-at, drop-drop, getD-drop, length-append, length-map, length-drop, map-append}
+use Rattle.std.proofs.shelf.Lists.{append-assoc, append-nil, take-more-set, take-at, drop-at, drop-drop, drop-set-lt, getD-drop, length-append, length-map, length-drop, map-append}
 use Rattle.fault.specs.declared.refusal.Fault.{Fault}
 use Rattle.std.proofs.shelf.Tests.{le-leb, lt-leb}
 use Rattle.fault.specs.declared.refusal.Refusal.the-variants.{Memory}
@@ -34,6 +34,10 @@ amount-made f file from count j scratch v h fits e inv =
     ∙ (λ i. take j scratch ++ (e i ∷ amounts-at f file (p i) (count - (j + 1))))
     ∙ ap (λ k. take j scratch ++ amounts-at f file (from + 4 * j) k) (sym n)
     ∙ inv
+
+-- what lies behind the amounts made stays
+pub rest-stays : {A : Type 0} (j : ℕ) (scratch entry : List A) (v : A) → drop j scratch ≡ drop j entry → drop (j + 1) (set scratch j v) ≡ drop (j + 1) entry
+rest-stays j scratch entry v e = drop-set-lt (j + 1) scratch j v (omega arith) ∙ (sym (drop-drop 1 j scratch) ∙ (ap (drop 1) e ∙ drop-drop 1 j entry))
 
 -- the filed pairs of settings, as bytes
 abbrev pub pair-bytes : List FiledSetting → List ℕ

@@ -7,15 +7,19 @@ use measure::Filed;
 use page::Page;
 ghost use mathlib.Core.Path.{_≡_};
 ghost use Prim.Native.Nat.{_+_, _*_, _≤_};
-ghost use lib.ListN.{length, take};
+ghost use lib.ListN.{length, take, drop};
 ghost use Rattle.page.specs.Pieces.{held};
 ghost use Rattle.page.specs.Puts.{putting, «put-leaves»};
 ghost use Rattle.order.specs.Fills.{«amounts-at», «said-of», Spells, AllPut, Filled};
 
-// Makes the amounts of `count` filed pairs that stand in the file from place `from` on, at the front of the scratch.
+// The amounts of scratch memory that a fill takes: the most settings that a piece has.
+pub const SCRATCH_PLACES: usize = 8;
+
+// Makes the amounts of `count` filed pairs that stand in the file from place `from` on, at the front of the scratch; the rest of it stays.
 fn read_amounts<M: Filed>(m: &M, file: &[u8], from: usize, count: usize, scratch: &mut [M::Amount])
     requires { ⌜ from + 4 * count ≤ length (now file) ⌝ ∗ ⌜ count ≤ length (now scratch) ⌝ }
-    ensures { λ _. ⌜ take count (now (scratch .exit)) ≡ «amounts-at» (M·Filed .filing (now (m .entry))) (now (file .entry)) from count ⌝ }
+    ensures made { λ _. ⌜ take count (now (scratch .exit)) ≡ «amounts-at» (M·Filed .filing (now (m .entry))) (now (file .entry)) from count ⌝ }
+    ensures rest { λ _. ⌜ drop count (now (scratch .exit)) ≡ drop count (now (scratch .entry)) ⌝ }
 {
     for j in 0..count {
         let at = from + 4 * j;
@@ -90,7 +94,7 @@ pub fn fill<M: Filed>(
     ensures { λ r. ⌜ Filled (M·Measure .functions (now (m .entry))) (M·Filed .filing (now (m .entry))) (now (file .entry)) (length (now (scratch .entry))) (held (now (page .entry)) (now («width_table» .entry)) (now («amount_table» .entry))) (held (now (page .exit)) (now («width_table» .exit)) (now («amount_table» .exit))) r ⌝ }
 {
     let figures = check(file)?;
-    if scratch.len() < 8 {
+    if scratch.len() < SCRATCH_PLACES {
         return Err(Fault::new(Refusal::Memory));
     }
     put_pieces(

@@ -7,6 +7,7 @@ pub mod headings;
 pub use checking::check;
 pub use checking::one_outcome;
 pub use checking::one_reading;
+pub use filling::SCRATCH_PLACES;
 pub use filling::fill;
 pub use head::Figures;
 pub use headings::heading_line;

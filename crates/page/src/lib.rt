@@ -3,3 +3,4 @@ pub mod record;
 mod testing;
 
 pub use record::Page;
+pub use record::putting::TABLE_PLACES;

@@ -6,8 +6,11 @@ mod summary;
 #[cfg(test)]
 mod tests;
 
+use fault::LINE_ROOM;
 use input::read_order;
+use order::SCRATCH_PLACES;
 use page::Page;
+use page::TABLE_PLACES;
 use replying::reply;
 use std::error::AnyError;
 use std::io::Write;
@@ -18,10 +21,10 @@ const FILE_ROOM: usize = 512;
 
 fn main(rt: LibcRuntime) -> Result<(), AnyError> {
     let mut file = rt.report(vec![in rt.alloc(); 0u8; FILE_ROOM])?;
-    let mut width_table = rt.report(vec![in rt.alloc(); 0u8; 96])?;
-    let mut amount_table = rt.report(vec![in rt.alloc(); 0u16; 96])?;
-    let mut scratch = [0u16; 8];
-    let mut line = [0u8; 80];
+    let mut width_table = rt.report(vec![in rt.alloc(); 0u8; TABLE_PLACES])?;
+    let mut amount_table = rt.report(vec![in rt.alloc(); 0u16; TABLE_PLACES])?;
+    let mut scratch = [0u16; SCRATCH_PLACES];
+    let mut line = [0u8; LINE_ROOM];
     let mut page = Page::new();
 
     let length = rt.report(read_order(&mut rt.stdin(), &mut file))?;

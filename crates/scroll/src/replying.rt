@@ -1,6 +1,7 @@
 // An order file put on a page, and the line that is said of it.
 use crate::summary::Reply;
 use fault::Fault;
+use fault::LINE_ROOM;
 use fault::refusal_line;
 use measure::Depth;
 use measure::DepthFiled;
@@ -52,7 +53,7 @@ pub fn reply(
     width_table: &mut [u8],
     amount_table: &mut [u16],
     scratch: &mut [u16],
-    line: &mut [u8; 80],
+    line: &mut [u8; LINE_ROOM],
 ) -> Reply
     ensures { λ r. ⌜ Replied (now (file .entry)) (length (now (scratch .entry))) (held (now (page .entry)) (now («width_table» .entry)) (now («amount_table» .entry))) (held (now (page .exit)) (now («width_table» .exit)) (now («amount_table» .exit))) (now (line .entry)) (now (line .exit)) r ⌝ }
 {

@@ -10,11 +10,19 @@ use fault::Refusal;
 use fault::write_over;
 use measure::Measure;
 
+// The pieces that a page may hold.
+pub const MOST_PIECES: u8 = 12;
+
+// The places of a settings table that belong to one piece, and those of all pieces.
+pub const PIECE_PLACES: usize = 8;
+
+pub const TABLE_PLACES: usize = 96;
+
 // Settings tables of at least 96 places.
 fn test_tables(widths: usize, amounts: usize) -> Result<(), Fault>
     ensures { λ r. ⌜ r ≡ roomy widths amounts ⌝ }
 {
-    if widths < 96 || amounts < 96 {
+    if widths < TABLE_PLACES || amounts < TABLE_PLACES {
         return Err(Fault::new(Refusal::Memory));
     }
     Ok(())
@@ -35,13 +43,13 @@ impl Page {
     ) -> Result<u8, Fault>
         ensures { λ r. ⌜ Put (functions (now (m .entry))) (held (now (self .entry)) (now («width_table» .entry)) (now («amount_table» .entry))) (now (widths .entry)) (now (amounts .entry)) (held (now (self .exit)) (now («width_table» .exit)) (now («amount_table» .exit))) r ⌝ }
     {
-        if self.count >= 12 {
+        if self.count >= MOST_PIECES {
             return Err(Fault::new(Refusal::PageFull));
         }
         test_tables(width_table.len(), amount_table.len())?;
         test_settings(m, widths, amounts)?;
         let piece = self.count;
-        let from = 8 * piece as usize;
+        let from = PIECE_PLACES * piece as usize;
         write_over(widths, width_table, from)?;
         write_over(amounts, amount_table, from)?;
         self.settings[piece as usize] = widths.len() as u8;

@@ -17,8 +17,8 @@ use Rattle.fault.specs.Written.{labelled, overwrite, Written}
 use Rattle.fault.proofs.Overwrite.{wrote-none, Stood, stood, stood-more, stood-written, not-refused, labelled-short}
 use Rattle.fault.proofs.lines.refusal_line.Needs as need
 
-pub returns-then-line-lt80 : need.returns-then-line-lt80
-returns-then-line-lt80 c = wrote-none 80 (refusal-text (c .args .fault)) (c .args .line .now) 0 _ (omega arith) (c .new .ensures)
+pub returns-then-line-lt-LINE-ROOM : need.returns-then-line-lt-LINE-ROOM
+returns-then-line-lt-LINE-ROOM c = wrote-none 80 (refusal-text (c .args .fault)) (c .args .line .now) 0 _ (omega arith) (c .new .ensures)
 
 spaced-short : (l : Layer) → length (spaced l) ≤ 7
 spaced-short Page = omega arith
@@ -47,12 +47,12 @@ module _ (n at place : ℕ) (l : Layer) (word before out after : List ℕ) (r s 
 
 pub returns-in-Break-at : need.returns-in-Break-at
 returns-in-Break-at c =
-    absurd (not-refused 0 _ _ _ _ _ (first (c .from .result) (c .args .line .now) _ _ (omega arith) (c .if-line-lt80 .left) (c .write-labelled .ensures)) (c .in-Break-at .was tt))
+    absurd (not-refused 0 _ _ _ _ _ (first (c .from .result) (c .args .line .now) _ _ (omega arith) (c .if-line-lt-LINE-ROOM .left) (c .write-labelled .ensures)) (c .in-Break-at .was tt))
 
 pub returns-in-Break-at-2 : need.returns-in-Break-at-2
 returns-in-Break-at-2 c =
     absurd (not-refused 0 _ _ _ _ _
-    (begun (c .from .result) (c .in-Continue-at .at) (c .args .fault .place) (c .layer-layer .result) (c .spaced-word .result .now) (c .args .line .now) _ _ _ _ (omega (arith, c .from .ensures)) (omega arith) (c .spaced-word .ensures) (c .if-line-lt80 .left) (c .write-labelled .ensures) (c .in-Continue-at .was tt) (c .write-labelled-2 .ensures))
+    (begun (c .from .result) (c .in-Continue-at .at) (c .args .fault .place) (c .layer-layer .result) (c .spaced-word .result .now) (c .args .line .now) _ _ _ _ (omega (arith, c .from .ensures)) (omega arith) (c .spaced-word .ensures) (c .if-line-lt-LINE-ROOM .left) (c .write-labelled .ensures) (c .in-Continue-at .was tt) (c .write-labelled-2 .ensures))
     (c .in-Break-at-2 .was tt))
 
 module _ (f : Fault) (n : ℕ) (word : List ℕ) (numbered : n ≡ number (f .refusal)) (layered : word ≡ spaced (layer (f .refusal))) where
@@ -70,21 +70,21 @@ module _ (f : Fault) (n : ℕ) (word : List ℕ) (numbered : n ≡ number (f .re
 
 pub returns-in-None : need.returns-in-None
 returns-in-None c =
-    let s = begun (c .from .result) (c .in-Continue-at .at) (c .args .fault .place) (c .layer-layer .result) (c .spaced-word .result .now) (c .args .line .now) _ _ _ _ (omega (arith, c .from .ensures)) (omega arith) (c .spaced-word .ensures) (c .if-line-lt80 .left) (c .write-labelled .ensures) (c .in-Continue-at .was tt) (c .write-labelled-2 .ensures) in
+    let s = begun (c .from .result) (c .in-Continue-at .at) (c .args .fault .place) (c .layer-layer .result) (c .spaced-word .result .now) (c .args .line .now) _ _ _ _ (omega (arith, c .from .ensures)) (omega arith) (c .spaced-word .ensures) (c .if-line-lt-LINE-ROOM .left) (c .write-labelled .ensures) (c .in-Continue-at .was tt) (c .write-labelled-2 .ensures) in
     let short = length-start (c .from .result) (c .args .fault .place) (c .spaced-word .result .now) (c .layer-layer .result) (omega (arith, c .from .ensures)) (omega arith) (c .spaced-word .ensures) in
     let e = without (c .args .fault) (c .from .result) (c .spaced-word .result .now) (c .from .ensures ∙ c .number-number .ensures) (c .spaced-word .ensures ∙ ap spaced (c .layer-layer .ensures)) (c .in-None .is) in
     subst (λ r. Written 80 (refusal-text (c .args .fault)) (c .args .line .now) 0 (c .write-labelled-2 .last .out) r) (c .in-Continue-at-2 .was tt)
-    (subst (λ x. Written 80 x (c .args .line .now) 0 (c .write-labelled-2 .last .out) (c .write-labelled-2 .result)) e (stood-written 80 0 _ _ _ _ (c .if-line-lt80 .left) (omega arith) s))
+    (subst (λ x. Written 80 x (c .args .line .now) 0 (c .write-labelled-2 .last .out) (c .write-labelled-2 .result)) e (stood-written 80 0 _ _ _ _ (c .if-line-lt-LINE-ROOM .left) (omega arith) s))
 
 pub returns-in-Some : need.returns-in-Some
 returns-in-Some c =
     let piece = labelled (codes " piece ") (c .from-in-Some .result) in
-    let s = begun (c .from .result) (c .in-Continue-at .at) (c .args .fault .place) (c .layer-layer .result) (c .spaced-word .result .now) (c .args .line .now) _ _ _ _ (omega (arith, c .from .ensures)) (omega arith) (c .spaced-word .ensures) (c .if-line-lt80 .left) (c .write-labelled .ensures) (c .in-Continue-at .was tt) (c .write-labelled-2 .ensures) in
+    let s = begun (c .from .result) (c .in-Continue-at .at) (c .args .fault .place) (c .layer-layer .result) (c .spaced-word .result .now) (c .args .line .now) _ _ _ _ (omega (arith, c .from .ensures)) (omega arith) (c .spaced-word .ensures) (c .if-line-lt-LINE-ROOM .left) (c .write-labelled .ensures) (c .in-Continue-at .was tt) (c .write-labelled-2 .ensures) in
     let short = length-start (c .from .result) (c .args .fault .place) (c .spaced-word .result .now) (c .layer-layer .result) (omega (arith, c .from .ensures)) (omega arith) (c .spaced-word .ensures) in
     let d = labelled-short 20 (codes " piece ") (c .from-in-Some .result) (omega arith) (omega arith) (omega arith) in
     let m = length-append (start (c .from .result) (c .spaced-word .result .now) (c .args .fault .place)) piece in
     let e = with-piece (c .args .fault) (c .from .result) (c .spaced-word .result .now) (c .from .ensures ∙ c .number-number .ensures) (c .spaced-word .ensures ∙ ap spaced (c .layer-layer .ensures)) (c .in-Some .piece) (c .in-Some .is) in
-    let w = stood-more 80 0 (c .in-Continue-at-2 .at) _ piece (c .args .line .now) _ (c .write-labelled-in-Some .last .out) _ (c .write-labelled-in-Some .result) (c .if-line-lt80 .left) (omega arith) s (c .in-Continue-at-2 .was tt) (c .write-labelled-in-Some .ensures) in
+    let w = stood-more 80 0 (c .in-Continue-at-2 .at) _ piece (c .args .line .now) _ (c .write-labelled-in-Some .last .out) _ (c .write-labelled-in-Some .result) (c .if-line-lt-LINE-ROOM .left) (omega arith) s (c .in-Continue-at-2 .was tt) (c .write-labelled-in-Some .ensures) in
     subst (λ x. Written 80 x (c .args .line .now) 0 (c .write-labelled-in-Some .last .out) (c .write-labelled-in-Some .result))
     (ap (λ k. start (c .from .result) (c .spaced-word .result .now) (c .args .fault .place) ++ labelled (codes " piece ") k) (c .from-in-Some .ensures) ∙ e)
-    (stood-written 80 0 _ _ _ _ (c .if-line-lt80 .left) (omega arith) w)
+    (stood-written 80 0 _ _ _ _ (c .if-line-lt-LINE-ROOM .left) (omega arith) w)

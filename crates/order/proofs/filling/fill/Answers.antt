@@ -13,15 +13,15 @@ returns-in-Break-figures g c =
     fill-refused (c .args .file .now) (c .check .result) (c .check .ensures) (g .M·Measure .functions (c .args .m .now)) (g .M·Filed .filing (c .args .m .now)) (length (c .args .scratch .now)) (held (c .args .page .now) (c .args .width-table .now) (c .args .amount-table .now))
     _ (c .from-residual .result) (c .in-Break-figures .was tt) (q .1 ∙ ap Err (q .2))
 
-pub returns-then-scratch-lt8 : need.returns-then-scratch-lt8
-returns-then-scratch-lt8 g c =
+pub returns-then-scratch-lt-SCRATCH-PLACES : need.returns-then-scratch-lt-SCRATCH-PLACES
+returns-then-scratch-lt-SCRATCH-PLACES g c =
     fill-short (c .args .file .now) (c .check .result) (c .check .ensures) (g .M·Measure .functions (c .args .m .now)) (g .M·Filed .filing (c .args .m .now)) (length (c .args .scratch .now)) (held (c .args .page .now) (c .args .width-table .now) (c .args .amount-table .now))
-    (c .in-Continue-figures .figures) (c .new .result) (c .in-Continue-figures .was tt) (c .if-scratch-lt8 .taken) (c .new .ensures)
+    (c .in-Continue-figures .figures) (c .new .result) (c .in-Continue-figures .was tt) (c .if-scratch-lt-SCRATCH-PLACES .taken) (c .new .ensures)
 
 pub put-pieces-requires : need.put-pieces-requires
-put-pieces-requires g c κs = (spells (c .args .file .now) (c .check .result) (c .check .ensures) (c .in-Continue-figures .figures) (c .in-Continue-figures .was tt), c .if-scratch-lt8 .left)
+put-pieces-requires g c κs = (spells (c .args .file .now) (c .check .result) (c .check .ensures) (c .in-Continue-figures .figures) (c .in-Continue-figures .was tt), c .if-scratch-lt-SCRATCH-PLACES .left)
 
 pub returns : need.returns
 returns g c =
     fill-put (c .args .file .now) (c .check .result) (c .check .ensures) (g .M·Measure .functions (c .args .m .now)) (g .M·Filed .filing (c .args .m .now)) (length (c .args .scratch .now)) (held (c .args .page .now) (c .args .width-table .now) (c .args .amount-table .now))
-    (c .in-Continue-figures .figures) _ _ (c .in-Continue-figures .was tt) (c .if-scratch-lt8 .left) (c .put-pieces .ensures)
+    (c .in-Continue-figures .figures) _ _ (c .in-Continue-figures .was tt) (c .if-scratch-lt-SCRATCH-PLACES .left) (c .put-pieces .ensures)

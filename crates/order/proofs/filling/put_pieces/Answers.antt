@@ -43,7 +43,7 @@ keeps-scratch-in-Break-put-piece g c = c .read-amounts .kept .scratch ∙ c .loo
 pub returns-in-Break-put-piece : need.returns-in-Break-put-piece
 returns-in-Break-put-piece g c o r =
     let n = next-put (c .loop-piece .inv .1 o r) (omega (arith, c .pre .0 .2, same-number (c .args .file .now) (c .pre .0 .0) o (c .pre .0 .1) r)) (c .from-count .result) (c .from-count .ensures ∙ ap (λ k. getD (c .args .file .now) (5 + k) 0) (c .from .ensures))
-    (c .read-amounts .last .scratch) (c .read-amounts .ensures) (c .put-piece .result) _ (c .put-piece .ensures .answer) (c .put-piece .ensures .leaves) (Err (c .in-Break-put-piece .field-0 .0)) (c .in-Break-put-piece .was tt) in
+    (c .read-amounts .last .scratch) (c .read-amounts .ensures .made) (c .put-piece .result) _ (c .put-piece .ensures .answer) (c .put-piece .ensures .leaves) (Err (c .in-Break-put-piece .field-0 .0)) (c .in-Break-put-piece .was tt) in
     let q = err-from-errBy (c .from-residual .result) (c .from-residual .ensures .1) in
     ap (λ x. record { answer = x; leaves = held (c .put-piece .last .page) (c .put-piece .last .width-table) (c .put-piece .last .amount-table) }) (q .1 ∙ ap Err (q .2)) ∙ n
 
@@ -62,7 +62,7 @@ loop-piece-again g c = (
   c .read-amounts .kept .scratch ∙ c .loop-piece .inv .0,
   λ o r.
       next-put (c .loop-piece .inv .1 o r) (omega (arith, c .pre .0 .2, same-number (c .args .file .now) (c .pre .0 .0) o (c .pre .0 .1) r)) (c .from-count .result) (c .from-count .ensures ∙ ap (λ k. getD (c .args .file .now) (5 + k) 0) (c .from .ensures))
-      (c .read-amounts .last .scratch) (c .read-amounts .ensures) (c .put-piece .result) _ (c .put-piece .ensures .answer) (c .put-piece .ensures .leaves) (Ok (c .in-Continue-put-piece .field-0)) (c .in-Continue-put-piece .was tt),
+      (c .read-amounts .last .scratch) (c .read-amounts .ensures .made) (c .put-piece .result) _ (c .put-piece .ensures .answer) (c .put-piece .ensures .leaves) (Ok (c .in-Continue-put-piece .field-0)) (c .in-Continue-put-piece .was tt),
 )
 
 pub keeps-scratch : need.keeps-scratch

@@ -14,5 +14,5 @@ ghost-self g c =
 pub returns : need.returns
 returns g c =
     put-done (g .M·Measure .functions (c .args .m .now)) (c .args .self .now) (c .args .widths .now) (c .args .amounts .now) (c .args .width-table .now) (c .args .amount-table .now) _ _ _
-    refl (c .if-self-ge12 .left) (c .test-tables .result) (c .test-settings .result) (c .test-tables .ensures) (c .in-Continue-test-tables .was tt) (c .test-settings .ensures) (c .in-Continue-test-settings .was tt)
+    refl (c .if-self-ge-MOST-PIECES .left) (c .test-tables .result) (c .test-settings .result) (c .test-tables .ensures) (c .in-Continue-test-tables .was tt) (c .test-settings .ensures) (c .in-Continue-test-settings .was tt)
     (omega arith) (c .write-over .ensures .memory) (c .write-over-2 .ensures .memory)
