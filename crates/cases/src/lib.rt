@@ -1,4 +1,6 @@
 // Tests of the calls that other crates make, as tables of cases; one module for each subject.
+#![tactic(auto)]
+
 #[cfg(test)]
 mod codes;
 #[cfg(test)]

@@ -1,4 +1,6 @@
 // Refusals and the one fault type of every crate, numbers written behind a label, and the line of a refusal.
+#![tactic(auto)]
+
 pub mod lines;
 pub mod memory;
 pub mod numbers;

@@ -1,4 +1,6 @@
 // Layouts: their entries, compared and told in a line; sets of pieces; and the codes that places of a table hold.
+#![tactic(auto)]
+
 pub mod code;
 pub mod codes;
 pub mod entry;

@@ -1,4 +1,6 @@
 // Measures: what ranks layouts. Amounts of one kind, four functions on them, and two laws.
+#![tactic(auto)]
+
 pub mod filing;
 pub mod layers;
 pub mod ranking;

@@ -1,4 +1,6 @@
 // The order file: what it is, its check, its pieces put on a page, and the line that says what stands there.
+#![tactic(auto)]
+
 pub mod checking;
 pub mod filling;
 pub mod head;

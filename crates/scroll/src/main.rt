@@ -1,5 +1,7 @@
 // The program `scroll`: reads an order file from standard input, puts its pieces on a page and says what stands there, or names the
 // refusal. A refused order ends it with status 1.
+#![tactic(auto)]
+
 mod input;
 mod replying;
 mod summary;
