@@ -9,8 +9,8 @@ use Rattle.fault.specs.Written.{labelled, overwrite, Written}
 use Rattle.fault.proofs.Overwrite.{wrote_none, Stood, stood, stood_more, stood_written, not_refused, labelled_short}
 use Rattle.fault.proofs.lines.refusal_line.Goals as goal
 
-pub returns-then-line-lt-LINE-ROOM : goal.returns-then-line-lt-LINE-ROOM
-returns-then-line-lt-LINE-ROOM c = wrote_none 80 (refusal_text c.args.fault) c.args.line.now 0 _ (omega arith) c.new.ensures
+pub returns-then-line-lt-LINE_ROOM : goal.returns-then-line-lt-LINE_ROOM
+returns-then-line-lt-LINE_ROOM c = wrote_none 80 (refusal_text c.args.fault) c.args.line.now 0 _ (omega arith) c.new.ensures
 
 spaced_short : (l : Layer) → length (spaced l) ≤ 7
 spaced_short Page = omega arith
@@ -37,15 +37,15 @@ module _ (n at place : ℕ) (l : Layer) (word before out after : List ℕ) (r s 
       (omega (arith, length_start n place word l small fits e, length-append (labelled (codes "refused ") n) (labelled word place)))
       (first n before out r (omega arith) room numbered) is placed
 
-pub returns-in-err-at : goal.returns-in-err-at
-returns-in-err-at c =
-    absurd (not_refused 0 _ _ _ _ _ (first c.from.result c.args.line.now _ _ (omega arith) c.if-line-lt-LINE-ROOM.false c.write-labelled.ensures) c.in-err-at.was)
+pub returns-in_err-at : goal.returns-in_err-at
+returns-in_err-at c =
+    absurd (not_refused 0 _ _ _ _ _ (first c.from.result c.args.line.now _ _ (omega arith) c.if-line-lt-LINE_ROOM.false c.write_labelled.ensures) c.in_err-at.was)
 
-pub returns-in-err-at-2 : goal.returns-in-err-at-2
-returns-in-err-at-2 c =
+pub returns-in_err-at-2 : goal.returns-in_err-at-2
+returns-in_err-at-2 c =
     absurd (not_refused 0 _ _ _ _ _
-    (begun c.from.result c.in-ok-at.at c.args.fault.place c.layer-layer.result c.spaced-word.result.now c.args.line.now _ _ _ _ (omega (arith, c.from.ensures)) (omega arith) c.spaced-word.ensures c.if-line-lt-LINE-ROOM.false c.write-labelled.ensures c.in-ok-at.was c.write-labelled-2.ensures)
-    c.in-err-at-2.was)
+    (begun c.from.result c.in_ok-at.at c.args.fault.place c.layer-layer.result c.spaced_word.result.now c.args.line.now _ _ _ _ (omega (arith, c.from.ensures)) (omega arith) c.spaced_word.ensures c.if-line-lt-LINE_ROOM.false c.write_labelled.ensures c.in_ok-at.was c.write_labelled-2.ensures)
+    c.in_err-at-2.was)
 
 module _ (f : Fault) (n : ℕ) (word : List ℕ) (numbered : n ≡ number f.refusal) (layered : word ≡ spaced (layer f.refusal)) where
   without : f.piece ≡ None → start n word f.place ≡ refusal_text f
@@ -62,21 +62,21 @@ module _ (f : Fault) (n : ℕ) (word : List ℕ) (numbered : n ≡ number f.refu
 
 pub returns-in-None : goal.returns-in-None
 returns-in-None c =
-    let s = begun c.from.result c.in-ok-at.at c.args.fault.place c.layer-layer.result c.spaced-word.result.now c.args.line.now _ _ _ _ (omega (arith, c.from.ensures)) (omega arith) c.spaced-word.ensures c.if-line-lt-LINE-ROOM.false c.write-labelled.ensures c.in-ok-at.was c.write-labelled-2.ensures in
-    let short = length_start c.from.result c.args.fault.place c.spaced-word.result.now c.layer-layer.result (omega (arith, c.from.ensures)) (omega arith) c.spaced-word.ensures in
-    let e = without c.args.fault c.from.result c.spaced-word.result.now (c.from.ensures ∙ c.number-number.ensures) (c.spaced-word.ensures ∙ ap spaced c.layer-layer.ensures) c.in-None.is in
-    subst (λ r. Written 80 (refusal_text c.args.fault) c.args.line.now 0 c.write-labelled-2.new.out r) c.in-ok-at-2.was
-    (subst (λ x. Written 80 x c.args.line.now 0 c.write-labelled-2.new.out c.write-labelled-2.result) e (stood_written 80 0 _ _ _ _ c.if-line-lt-LINE-ROOM.false (omega arith) s))
+    let s = begun c.from.result c.in_ok-at.at c.args.fault.place c.layer-layer.result c.spaced_word.result.now c.args.line.now _ _ _ _ (omega (arith, c.from.ensures)) (omega arith) c.spaced_word.ensures c.if-line-lt-LINE_ROOM.false c.write_labelled.ensures c.in_ok-at.was c.write_labelled-2.ensures in
+    let short = length_start c.from.result c.args.fault.place c.spaced_word.result.now c.layer-layer.result (omega (arith, c.from.ensures)) (omega arith) c.spaced_word.ensures in
+    let e = without c.args.fault c.from.result c.spaced_word.result.now (c.from.ensures ∙ c.number-number.ensures) (c.spaced_word.ensures ∙ ap spaced c.layer-layer.ensures) c.in-None.is in
+    subst (λ r. Written 80 (refusal_text c.args.fault) c.args.line.now 0 c.write_labelled-2.new.out r) c.in_ok-at-2.was
+    (subst (λ x. Written 80 x c.args.line.now 0 c.write_labelled-2.new.out c.write_labelled-2.result) e (stood_written 80 0 _ _ _ _ c.if-line-lt-LINE_ROOM.false (omega arith) s))
 
 pub returns-in-Some : goal.returns-in-Some
 returns-in-Some c =
     let piece = labelled (codes " piece ") c.from-in-Some.result in
-    let s = begun c.from.result c.in-ok-at.at c.args.fault.place c.layer-layer.result c.spaced-word.result.now c.args.line.now _ _ _ _ (omega (arith, c.from.ensures)) (omega arith) c.spaced-word.ensures c.if-line-lt-LINE-ROOM.false c.write-labelled.ensures c.in-ok-at.was c.write-labelled-2.ensures in
-    let short = length_start c.from.result c.args.fault.place c.spaced-word.result.now c.layer-layer.result (omega (arith, c.from.ensures)) (omega arith) c.spaced-word.ensures in
+    let s = begun c.from.result c.in_ok-at.at c.args.fault.place c.layer-layer.result c.spaced_word.result.now c.args.line.now _ _ _ _ (omega (arith, c.from.ensures)) (omega arith) c.spaced_word.ensures c.if-line-lt-LINE_ROOM.false c.write_labelled.ensures c.in_ok-at.was c.write_labelled-2.ensures in
+    let short = length_start c.from.result c.args.fault.place c.spaced_word.result.now c.layer-layer.result (omega (arith, c.from.ensures)) (omega arith) c.spaced_word.ensures in
     let d = labelled_short 20 (codes " piece ") c.from-in-Some.result (omega arith) (omega arith) (omega arith) in
-    let m = length-append (start c.from.result c.spaced-word.result.now c.args.fault.place) piece in
-    let e = with_piece c.args.fault c.from.result c.spaced-word.result.now (c.from.ensures ∙ c.number-number.ensures) (c.spaced-word.ensures ∙ ap spaced c.layer-layer.ensures) c.in-Some.piece c.in-Some.is in
-    let w = stood_more 80 0 c.in-ok-at-2.at _ piece c.args.line.now _ c.write-labelled-in-Some.new.out _ c.write-labelled-in-Some.result c.if-line-lt-LINE-ROOM.false (omega arith) s c.in-ok-at-2.was c.write-labelled-in-Some.ensures in
-    subst (λ x. Written 80 x c.args.line.now 0 c.write-labelled-in-Some.new.out c.write-labelled-in-Some.result)
-    (ap (λ k. start c.from.result c.spaced-word.result.now c.args.fault.place ++ labelled (codes " piece ") k) c.from-in-Some.ensures ∙ e)
-    (stood_written 80 0 _ _ _ _ c.if-line-lt-LINE-ROOM.false (omega arith) w)
+    let m = length-append (start c.from.result c.spaced_word.result.now c.args.fault.place) piece in
+    let e = with_piece c.args.fault c.from.result c.spaced_word.result.now (c.from.ensures ∙ c.number-number.ensures) (c.spaced_word.ensures ∙ ap spaced c.layer-layer.ensures) c.in-Some.piece c.in-Some.is in
+    let w = stood_more 80 0 c.in_ok-at-2.at _ piece c.args.line.now _ c.write_labelled-in-Some.new.out _ c.write_labelled-in-Some.result c.if-line-lt-LINE_ROOM.false (omega arith) s c.in_ok-at-2.was c.write_labelled-in-Some.ensures in
+    subst (λ x. Written 80 x c.args.line.now 0 c.write_labelled-in-Some.new.out c.write_labelled-in-Some.result)
+    (ap (λ k. start c.from.result c.spaced_word.result.now c.args.fault.place ++ labelled (codes " piece ") k) c.from-in-Some.ensures ∙ e)
+    (stood_written 80 0 _ _ _ _ c.if-line-lt-LINE_ROOM.false (omega arith) w)

@@ -8,6 +8,6 @@ returns g c =
     let xs = c.args.items.now in
     let o = c.args.out.now in
     let at = c.args.at in
-    put_mid-paste at _ o _ xs (length xs) c.copy-from-slice.ensures.after (omega arith) refl
+    put_mid-paste at _ o _ xs (length xs) c.copy_from_slice.ensures.after (omega arith) refl
     ∙ append_assoc (take at o) (take (length xs) xs) (drop (at + length xs) o)
     ∙ ap (λ l. take at o ++ (l ++ drop (at + length xs) o)) (take_all (length xs) xs (omega arith))

@@ -9,15 +9,15 @@ pub returns-then-n-lt10 : goal.returns-then-n-lt10
 returns-then-n-lt10 t c =
     record { bytes = wrote_one c.args.at c.args.n c.args.out.now c.if-n-lt10.true c.requires; behind = omega (arith, one_digit c.args.n c.if-n-lt10.true) }
 
-pub write-digits-last-requires : goal.write-digits-last-requires
-write-digits-last-requires t c = (omega arith, omega (arith, last_digit c.args.n c.if-n-lt10.false (omega arith)))
+pub write_digits-last-requires : goal.write_digits-last-requires
+write_digits-last-requires t c = (omega arith, omega (arith, last_digit c.args.n c.if-n-lt10.false (omega arith)))
 
 pub bounds-out-last : goal.bounds-out-last
 bounds-out-last t c = omega (arith, last_digit c.args.n c.if-n-lt10.false (omega arith))
 
-pub overflow-add-result-2 : goal.overflow-add-result-2
-overflow-add-result-2 t c = omega (arith, last_digit c.args.n c.if-n-lt10.false (omega arith), c.well-formed)
+pub overflow_add-result-2 : goal.overflow_add-result-2
+overflow_add-result-2 t c = omega (arith, last_digit c.args.n c.if-n-lt10.false (omega arith), c.well_formed)
 
 pub returns : goal.returns
 returns t c =
-    record { bytes = wrote_last c.args.at c.write-digits-last.result c.args.n c.args.out.now c.write-digits-last.new.out c.if-n-lt10.false (omega arith) c.requires c.write-digits-last.ensures.bytes c.write-digits-last.ensures.behind; behind = omega (arith, last_digit c.args.n c.if-n-lt10.false (omega arith)) }
+    record { bytes = wrote_last c.args.at c.write_digits-last.result c.args.n c.args.out.now c.write_digits-last.new.out c.if-n-lt10.false (omega arith) c.requires c.write_digits-last.ensures.bytes c.write_digits-last.ensures.behind; behind = omega (arith, last_digit c.args.n c.if-n-lt10.false (omega arith)) }

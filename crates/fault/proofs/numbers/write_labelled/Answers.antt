@@ -12,16 +12,16 @@ returns-then-label-room c =
     wrote_none (length (labelled c.args.label.now c.args.n)) (labelled c.args.label.now c.args.n) c.args.out.now c.args.at _
     (elim c.then-label-room.branch [ goal.then-label-room-via-then-label-room w ↦ omega arith | goal.then-label-room-via-else-label-room+then-count-room w ↦ omega arith ]) c.new.ensures
 
-pub lay-over-requires : goal.lay-over-requires
-lay-over-requires c = let some = decimal_nonempty c.args.n (omega arith) in omega arith
+pub lay_over-requires : goal.lay_over-requires
+lay_over-requires c = let some = decimal_nonempty c.args.n (omega arith) in omega arith
 
-pub write-digits-requires : goal.write-digits-requires
-write-digits-requires c = let some = decimal_nonempty c.args.n (omega arith) in omega arith
+pub write_digits-requires : goal.write_digits-requires
+write_digits-requires c = let some = decimal_nonempty c.args.n (omega arith) in omega arith
 
 pub returns : goal.returns
 returns c =
     let long = length-append c.args.label.now (decimal c.args.n) in
     let some = decimal_nonempty c.args.n (omega arith) in
     wrote (length (labelled c.args.label.now c.args.n)) (labelled c.args.label.now c.args.n) c.args.out.now c.args.at _ _ (omega arith) (omega arith)
-    (c.write-digits.ensures.bytes ∙ ap (overwrite (c.args.at + length c.args.label.now) (decimal c.args.n)) c.lay-over.ensures ∙ overwrite_more c.args.at c.args.label.now (decimal c.args.n) c.args.out.now (omega arith))
+    (c.write_digits.ensures.bytes ∙ ap (overwrite (c.args.at + length c.args.label.now) (decimal c.args.n)) c.lay_over.ensures ∙ overwrite_more c.args.at c.args.label.now (decimal c.args.n) c.args.out.now (omega arith))
     (omega arith)
