@@ -1,5 +1,5 @@
 // Layers over layers, in either order.
-ghost use Rattle.std.specs.Prelude.{min, max, leb, Some};
+ghost use Rattle.std.specs.Prelude.{min, max, nat_le, Some};
 ghost use Rattle.std.proofs.Common.{rules};
 
 use measure::{Ceiling, Depth, Gutter, Measure};
@@ -11,7 +11,7 @@ struct Least;
 impl Measure for Least {
     type Amount = u16;
 
-    ghost functions = { λ _. record { no_worse = leb; cell = λ a. Some a; beside = λ a b. Some (max a b); above = λ a b. Some (min a b) } };
+    ghost functions = { λ _. record { no_worse = nat_le; cell = λ a. Some a; beside = λ a b. Some (max a b); above = λ a b. Some (min a b) } };
 
     ghost lawful = { Prim.search rules };
 

@@ -11,5 +11,5 @@ pub fn one_layout()
 
 // A layout that no other betters is no worse than every other.
 pub fn best_is_no_worse<M: Measure>(_m: &M)
-    ensures { BestIsNoWorse (functions _m.now) }
+    ensures { BestIsNoWorse (M.functions _m.now) }
 {}

@@ -16,7 +16,7 @@ cell_depth d = nat_le 1 d && nat_le d 2000
 
 abbrev pub depth : Functions ℕ
 depth = record {
-  no_worse = leb;
+  no_worse = nat_le;
   cell = λ a. cond (cell_depth a) (Some a) None;
   beside = λ a b. Some (deeper a b);
   above = λ a b. Some (stacked a b);

@@ -31,7 +31,7 @@ pub trait Measure {
 
 // Whether `a` is better than `b`: no worse, but not the other way round.
 pub fn better<M: Measure>(m: &M, a: M::Amount, b: M::Amount) -> bool
-    ensures { result ≡ is_better (functions m.now) a b }
+    ensures { result ≡ is_better (M.functions m.now) a b }
 {
     m.no_worse(a, b) && !m.no_worse(b, a)
 }

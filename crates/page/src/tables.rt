@@ -32,7 +32,7 @@ pub(crate) fn lay_settings<M: Measure>(
     amount_table: &mut [M::Amount],
 ) -> Result<u8, Fault>
     requires { piece < 12 }
-    ensures { Laid (functions m.now) piece widths.now amounts.now width_table.old amount_table.old width_table.new amount_table.new result }
+    ensures { Laid (M.functions m.now) piece widths.now amounts.now width_table.old amount_table.old width_table.new amount_table.new result }
 {
     test_tables(width_table.len(), amount_table.len())?;
     test_settings(m, widths, amounts)?;

@@ -32,7 +32,7 @@ fn test_widths(widths: &[u8]) -> Result<(), Fault>
 
 // Each amount is better than the last.
 fn test_amounts<M: Measure>(m: &M, amounts: &[M::Amount]) -> Result<(), Fault>
-    ensures { result ≡ all_improving (functions m.now) amounts.now }
+    ensures { result ≡ all_improving (M.functions m.now) amounts.now }
 {
     if amounts.is_empty() {
         return Ok(());
@@ -54,7 +54,7 @@ pub(crate) fn test_settings<M: Measure>(
     widths: &[u8],
     amounts: &[M::Amount],
 ) -> Result<(), Fault>
-    ensures { result ≡ tested (functions m.now) widths.now amounts.now }
+    ensures { result ≡ tested (M.functions m.now) widths.now amounts.now }
 {
     test_count(widths.len(), amounts.len())?;
     test_widths(widths)?;

@@ -23,8 +23,8 @@ impl Page {
         width_table: &mut [u8],
         amount_table: &mut [M::Amount],
     ) -> Result<u16, Fault>
-        ensures call { Amend (functions m.now) (held self.old width_table.old amount_table.old) piece widths.now amounts.now (held self.new width_table.new amount_table.new) result }
-        ensures run { GoesOn (functions m.now) (held self.old width_table.old amount_table.old) (held self.new width_table.new amount_table.new) }
+        ensures call { Amend (M.functions m.now) (held self.old width_table.old amount_table.old) piece widths.now amounts.now (held self.new width_table.new amount_table.new) result }
+        ensures run { GoesOn (M.functions m.now) (held self.old width_table.old amount_table.old) (held self.new width_table.new amount_table.new) }
     {
         if piece >= self.count {
             return Err(Fault::new(Refusal::NoSuchPiece));

@@ -24,8 +24,8 @@ impl Page {
         width_table: &mut [u8],
         amount_table: &mut [M::Amount],
     ) -> Result<u8, Fault>
-        ensures call { Put (functions m.now) (held self.old width_table.old amount_table.old) widths.now amounts.now (held self.new width_table.new amount_table.new) result }
-        ensures run { GoesOn (functions m.now) (held self.old width_table.old amount_table.old) (held self.new width_table.new amount_table.new) }
+        ensures call { Put (M.functions m.now) (held self.old width_table.old amount_table.old) widths.now amounts.now (held self.new width_table.new amount_table.new) result }
+        ensures run { GoesOn (M.functions m.now) (held self.old width_table.old amount_table.old) (held self.new width_table.new amount_table.new) }
     {
         if self.count >= MOST_PIECES {
             return Err(Fault::new(Refusal::PageFull));

@@ -6,9 +6,9 @@ use Rattle.measure.proofs.filing.DepthFiled.write.Goals as goal
 
 pub returns : goal.returns
 returns c =
-    let room = leb-true (c.args.at + 16) (length c.args.out.now) (sym c.has-room.ensures ∙ c.if-not-has-room.false) in
+    let room = leb-true (c.args.at + 16) (length c.args.out.now) (sym c.has_room.ensures ∙ c.if-not-has_room.false) in
     let n = c.from.ensures in
     let short = labelled_short 5 [] c.from.result (omega arith) (omega arith) (omega arith) in
-    let s = stood 16 c.args.at (labelled [] c.from.result) c.args.out.now _ _ room (omega arith) c.write-labelled.ensures in
-    subst (λ k. Written 16 (labelled [] k) c.args.out.now c.args.at c.write-labelled.new.out c.write-labelled.result) n
+    let s = stood 16 c.args.at (labelled [] c.from.result) c.args.out.now _ _ room (omega arith) c.write_labelled.ensures in
+    subst (λ k. Written 16 (labelled [] k) c.args.out.now c.args.at c.write_labelled.new.out c.write_labelled.result) n
     (stood_written 16 c.args.at _ _ _ _ room (omega arith) s)
