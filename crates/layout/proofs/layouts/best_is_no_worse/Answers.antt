@@ -13,4 +13,4 @@ unbeaten m laws a b e = by (m.no_worse a b) (m.no_worse b a) e (laws.total a b)
     by false false h (inr e) = e
 
 pub returns : goal.returns
-returns g c ps w x a best y b f = unbeaten _ (g.met.M.Measure.lawful c.args.-m.now) a b (best.unbeaten y b f)
+returns g c ps w x a best y b f = unbeaten _ (g.met.M.Measure.lawful c.args._m.now) a b (best.unbeaten y b f)

@@ -1,5 +1,5 @@
 use Rattle.std.proofs.Common.{length}
 use Rattle.layout.proofs.reading.+last_layout.Given as goal
 
-abbrev pub decreases-last-layout : goal.decreases-last-layout
-decreases-last-layout l = length l.entries.now
+abbrev pub decreases-last_layout : goal.decreases-last_layout
+decreases-last_layout l = length l.entries.now

@@ -5,12 +5,12 @@ use Rattle.layout.proofs.Cells.{most_entries}
 use Rattle.layout.proofs.Collect.{spelt_at, starts_first, found}
 use Rattle.layout.proofs.reading.is_layout.Goals as goal
 
-pub returns-then-entries-gt-MOST-ENTRIES : goal.returns-then-entries-gt-MOST-ENTRIES
-returns-then-entries-gt-MOST-ENTRIES c = (λ e. absurd (grind arith), λ s. absurd (omega (arith, most_entries s.0 s.1.tellable, ap length s.1.spelt)))
+pub returns-then-entries-gt-MOST_ENTRIES : goal.returns-then-entries-gt-MOST_ENTRIES
+returns-then-entries-gt-MOST_ENTRIES c = (λ e. absurd (grind arith), λ s. absurd (omega (arith, most_entries s.0 s.1.tellable, ap length s.1.spelt)))
 
 pub returns-then-start-eq0 : goal.returns-then-start-eq0
 returns-then-start-eq0 c =
-    Decides-at c.is-some.result (is_some c.piece-set.result) c.is-some.ensures (found c.args.entries.now c.in-Some.start c.piece-set.result c.in-Some.ensures c.if-start-eq0.true c.piece-set.ensures)
+    Decides-at c.is_some.result (is_some c.piece_set.result) c.is_some.ensures (found c.args.entries.now c.in-Some.start c.piece_set.result c.in-Some.ensures c.if-start-eq0.true c.piece_set.ensures)
 
 pub returns-else-start-eq0 : goal.returns-else-start-eq0
 returns-else-start-eq0 c =

@@ -1,4 +1,4 @@
 use Rattle.layout.proofs.writing.+write_back.Given as goal
 
-abbrev pub decreases-write-back : goal.decreases-write-back
-decreases-write-back l = l.cursor.entry
+abbrev pub decreases-write_back : goal.decreases-write_back
+decreases-write_back l = l.cursor.entry

@@ -2,8 +2,8 @@ use Rattle.std.proofs.Common.{length}
 use Rattle.layout.proofs.Lined.{plan_room, plan_wrote}
 use Rattle.layout.proofs.writing.write_plan.Goals as goal
 
-pub write-back-requires : goal.write-back-requires
-write-back-requires c = plan_room c.args.entries.now c.args.at (length c.args.out.now) c.requires
+pub write_back-requires : goal.write_back-requires
+write_back-requires c = plan_room c.args.entries.now c.args.at (length c.args.out.now) c.requires
 
 pub returns : goal.returns
-returns c = plan_wrote c.args.entries.now c.args.out.now c.args.at _ _ _ c.write-back.ensures
+returns c = plan_wrote c.args.entries.now c.args.out.now c.args.at _ _ _ c.write_back.ensures
