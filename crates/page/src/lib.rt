@@ -3,8 +3,7 @@
 
 pub mod laws;
 pub mod record;
-mod tables;
 mod testing;
 
 pub use record::Page;
-pub use tables::TABLE_PLACES;
+pub use record::putting::TABLE_PLACES;

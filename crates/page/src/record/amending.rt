@@ -5,7 +5,7 @@ ghost use Rattle.page.specs.Rules.{GoesOn};
 
 use super::Page;
 use super::falling::all_rows;
-use crate::tables::lay_settings;
+use super::putting::lay_settings;
 use fault::{Fault, Refusal};
 use measure::Measure;
 
