@@ -8,5 +8,5 @@ returns-in-Ok c = replied_told c.args.file.now (length c.args.scratch.now) _ _ c
 
 pub returns-in-Err : goal.returns-in-Err
 returns-in-Err c =
-    replied_refused c.args.file.now (length c.args.scratch.now) _ _ c.args.line.now c.summarize.new.line _ c.in-Err.fault c.refusal-line.result c.unwrap.result
-    (omega arith) c.in-Err.ensures c.refusal-line.ensures c.unwrap.ensures
+    replied_refused c.args.file.now (length c.args.scratch.now) _ _ c.args.line.now c.summarize.new.line _ c.in-Err.fault c.refusal_line.result c.unwrap.result
+    (omega arith) c.in-Err.ensures c.refusal_line.ensures c.unwrap.ensures
