@@ -1,5 +1,5 @@
 -- Examples of lines, computed by the checker.
-use Rattle.std.specs.Prelude.{◌≡◌, ℕ, List, [], ◌∷◌, codes, refl}
+use Rattle.std.specs.Prelude.{◌≡◌, ℕ, [], ◌∷◌, codes, refl}
 use Rattle.std.specs.Fmt.{digits}
 use Rattle.fault.specs.declared.refusal.Refusal.TheVariants.{Width, WrongSign, FileEndsEarly}
 use Rattle.fault.specs.Faults.{fault_at, of_piece}

@@ -1,5 +1,5 @@
 -- The text of a layout, written from its end back.
-use Rattle.std.proofs.Common.{◌≡◌, ℕ, ◌+◌, ◌-◌, ◌*◌, ◌<◌, ◌≤◌, List, [], ◌∷◌, ◌++◌, length, get_or, take, drop, set, Some, None, sym, refl, ap, ◌∙◌, subst, arith}
+use Rattle.std.proofs.Common.{◌≡◌, ℕ, ◌+◌, ◌-◌, ◌*◌, ◌<◌, ◌≤◌, List, [], ◌∷◌, ◌++◌, length, get_or, take, set, Some, None, sym, refl, ap, ◌∙◌, subst, arith}
 use Rattle.std.proofs.lemmas.List.{length-append, length-set, length-take-le, take_at, take_more, take-take, same_from_push}
 use Rattle.fault.specs.Written.{overwrite}
 use Rattle.fault.proofs.Overwrite.{overwrite_one, overwrite_before, length-overwrite}
@@ -7,10 +7,10 @@ use Rattle.layout.specs.declared.entry.Cut.{Cut}
 use Rattle.layout.specs.declared.entry.Cut.TheVariants as cuts
 use Rattle.layout.specs.declared.entry.Entry.{Entry}
 use Rattle.layout.specs.Layouts.{Layout, cell, cut}
-use Rattle.layout.specs.Entries.{cut_of, kind_of, cell_entry, cut_entry, entries}
+use Rattle.layout.specs.Entries.{cut_of, kind_of, cell_entry, entries}
 use Rattle.layout.specs.Texts.{opening, closing, plan_text}
 use Rattle.layout.specs.Readings.{CellEntry, Ending, Room, WroteOf, Wrote}
-use Rattle.layout.proofs.Endings.{kind, piece, setting, cut_last, entry_count, some_entry}
+use Rattle.layout.proofs.Endings.{kind, piece, setting, entry_count, some_entry}
 use Rattle.layout.proofs.Read.{last_cell, last_parts}
 
 pub text_length : (x : Layout) → length (plan_text x) ≡ 2 * length (entries x)

@@ -1,15 +1,15 @@
 -- The pieces of cells, collected in a set.
-use Rattle.std.proofs.Common.{◌≡◌, ℕ, ◌+◌, ◌^◌, ◌<◌, ◌≤◌, Bool, true, false, cond, ◌&&◌, eqb, ltb, ◌⊎◌, List, [], ◌++◌, length, is_some, Some, None, Decides, Option, sym, refl, ap, ◌∙◌, inl, inr, arith}
+use Rattle.std.proofs.Common.{◌≡◌, ℕ, ◌+◌, ◌^◌, ◌<◌, ◌≤◌, true, false, cond, eqb, ◌⊎◌, List, [], ◌++◌, length, is_some, Some, None, Decides, Option, sym, refl, ap, ◌∙◌, inl, inr, arith}
 use Rattle.std.proofs.lemmas.List.{nil_from_length}
 use Rattle.std.proofs.lemmas.Bool.{eqb-true, eqb-false, eq-eqb, ne_eqb, lt-ltb, cases_lt}
 use Rattle.std.proofs.lemmas.Bool.Decides.{nat_tests}
 use Rattle.layout.specs.declared.entry.Kind.{Kind}
 use Rattle.layout.specs.declared.entry.Kind.TheVariants.{Cell}
 use Rattle.layout.specs.declared.entry.Entry.{Entry}
-use Rattle.layout.specs.Layouts.{Layout, cell, cut, cells}
+use Rattle.layout.specs.Layouts.{Layout, cells}
 use Rattle.layout.specs.Entries.{entries}
 use Rattle.layout.specs.Sets.{bit, with_piece}
-use Rattle.layout.specs.Texts.{Lettered, Tellable, Spells}
+use Rattle.layout.specs.Texts.{Spells}
 use Rattle.layout.specs.Readings.{Ending, Begins, in_cell, cell_count, Collected}
 use Rattle.layout.proofs.Bit.{bit_small, bit_high, bit_with}
 use Rattle.layout.proofs.Endings.{one_ending}

@@ -1,5 +1,5 @@
 -- What a list of entries ends with is one layout at most, so entries determine their layout.
-use Rattle.std.proofs.Common.{◌≡◌, ℕ, ◌+◌, ◌*◌, ◌<◌, List, [], ◌∷◌, ◌++◌, length, sym, refl, ap, ◌∙◌, arith}
+use Rattle.std.proofs.Common.{◌≡◌, ℕ, ◌+◌, ◌<◌, List, [], ◌∷◌, ◌++◌, length, sym, refl, ap, ◌∙◌, arith}
 use Rattle.std.proofs.lemmas.List.{append_assoc, length-append, same_from_push}
 use Rattle.layout.specs.declared.entry.Cut.{Cut}
 use Rattle.layout.specs.declared.entry.Cut.TheVariants.{Above, Beside}

@@ -1,5 +1,5 @@
 -- A line filled part by part, where its buffer has the stated room.
-use Rattle.std.proofs.Common.{◌≡◌, ℕ, ◌+◌, ◌*◌, ◌<◌, ◌≤◌, List, [], ◌++◌, length, take, Ok, Err, decimal, Result, sym, refl, ap, ◌∙◌, subst, arith}
+use Rattle.std.proofs.Common.{◌≡◌, ℕ, ◌+◌, ◌*◌, ◌<◌, ◌≤◌, List, [], ◌++◌, length, Ok, Err, decimal, Result, sym, refl, ap, ◌∙◌, subst, arith}
 use Rattle.std.proofs.lemmas.List.{length-append, take_all}
 use Rattle.std.proofs.lemmas.Bool.{le-leb}
 use Rattle.fault.specs.declared.refusal.Fault.{Fault}
@@ -7,9 +7,8 @@ use Rattle.fault.specs.Written.{labelled, overwrite, Written}
 use Rattle.fault.proofs.Overwrite.{Stood, stood, stood_more, stood_written, not_refused, labelled_short, length-overwrite, overwrite_more, written_ok}
 use Rattle.layout.specs.declared.entry.Entry.{Entry}
 use Rattle.layout.specs.Layouts.{Layout}
-use Rattle.layout.specs.Entries.{entries}
 use Rattle.layout.specs.Texts.{plan_text, Spells}
-use Rattle.layout.specs.Readings.{Ending, Room, Wrote, PlanRoom, PlanWroteOf, PlanWrote}
+use Rattle.layout.specs.Readings.{Ending, Room, Wrote, PlanRoom, PlanWrote}
 use Rattle.layout.proofs.Back.{text_length}
 use Rattle.layout.proofs.Cells.{most_entries}
 use Rattle.layout.proofs.Collect.{spelt_at}

@@ -1,6 +1,6 @@
 -- What a list of entries ends with, from its last entry and what stands before it.
-use Rattle.std.proofs.Common.{◌≡◌, ℕ, ◌+◌, ◌-◌, ◌<◌, ◌≤◌, List, [], ◌∷◌, ◌++◌, length, get_or, take, drop, Some, None, Option, sym, refl, ap, ◌∙◌, subst, arith}
-use Rattle.std.proofs.lemmas.List.{length-append, length_push, take_at, take_all, take_more, same_from_push}
+use Rattle.std.proofs.Common.{◌≡◌, ℕ, ◌+◌, ◌-◌, ◌<◌, List, [], ◌∷◌, ◌++◌, length, get_or, take, Some, None, Option, sym, refl, ap, ◌∙◌, subst, arith}
+use Rattle.std.proofs.lemmas.List.{length-append, take_at, take_all, take_more, same_from_push}
 use Rattle.layout.specs.declared.entry.Cut.{Cut}
 use Rattle.layout.specs.declared.entry.Cut.TheVariants as cuts
 use Rattle.layout.specs.declared.entry.Kind.{Kind}

@@ -1,15 +1,14 @@
 -- Examples of layouts, their entries and their lines, computed by the checker.
-use Rattle.std.specs.Prelude.{◌≡◌, ℕ, zero, suc, ◌<◌, List, [], ◌∷◌, Some, None, codes, Option, refl}
+use Rattle.std.specs.Prelude.{◌≡◌, ℕ, zero, suc, ◌<◌, [], ◌∷◌, Some, None, codes, refl}
 use Rattle.std.proofs.Common.{arith}
 use Rattle.std.specs.Fmt.{digits}
-use Rattle.measure.specs.Measures.{Functions}
 use Rattle.measure.specs.Settings.{Setting}
 use Rattle.measure.specs.Products.{depth, ceiling}
 use Rattle.measure.specs.Filing.{depth_filing}
 use Rattle.layout.specs.declared.entry.Cut.TheVariants.{Above, Beside}
 use Rattle.layout.specs.Layouts.{Layout, cell, cut, Pieces, width, amount, cells, LayoutOf}
 use Rattle.layout.specs.Entries.{cell_entry, cut_entry, entries}
-use Rattle.layout.specs.Texts.{plan_text, layout_text, none_text}
+use Rattle.layout.specs.Texts.{layout_text, none_text}
 
 abbrev of : ℕ → ℕ → Setting ℕ
 of w d = record { width = w; amount = d }

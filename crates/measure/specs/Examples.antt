@@ -1,5 +1,5 @@
 -- Examples of amounts, computed by the checker.
-use Rattle.std.specs.Prelude.{◌≡◌, ℕ, true, false, Some, None, codes, Option, refl}
+use Rattle.std.specs.Prelude.{◌≡◌, ℕ, true, Some, None, codes, refl}
 use Rattle.std.specs.Fmt.{digits}
 use Rattle.measure.specs.declared.simple.MarkedDepth.{MarkedDepth}
 use Rattle.measure.specs.Measures.{better}

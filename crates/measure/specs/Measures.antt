@@ -1,5 +1,5 @@
 -- What a measure is: four functions on amounts of one kind, and two laws.
-use Rattle.std.specs.Prelude.{◌≡◌, Bool, true, false, not, ◌&&◌, ◌⊎◌, Some, None, Option}
+use Rattle.std.specs.Prelude.{◌≡◌, Bool, true, not, ◌&&◌, ◌⊎◌, Some, None, Option}
 
 -- a measure's four functions; `cell`, `beside` and `above` give an amount or nothing
 pub record Functions (A : Type 0) : Type 0 where

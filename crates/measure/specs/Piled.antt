@@ -1,7 +1,7 @@
 -- Each layer keeps the laws of the measure below it. Assumes nothing.
-use Rattle.std.specs.Prelude.{◌≡◌, Bool, true, false, cond, ◌⊎◌, Some, None, Option, refl}
+use Rattle.std.specs.Prelude.{◌≡◌, Bool, true, false, cond, Some, None, Option, refl}
 use Rattle.std.proofs.Common.{arith}
-use Rattle.measure.specs.Measures.{Functions, Laws, NoWorse, Monotone}
+use Rattle.measure.specs.Measures.{Functions, Laws, NoWorse}
 use Rattle.measure.specs.Products.{gutter, ceiling, then, kept}
 
 module _ {A : Type 0} (m : Functions A) (laws : Laws m) where

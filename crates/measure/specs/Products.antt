@@ -1,5 +1,5 @@
 -- The measures that the library brings: lines, marks before lines, and two layers over any measure.
-use Rattle.std.specs.Prelude.{ℕ, ◌+◌, min, max, Bool, true, false, cond, ◌&&◌, ◌||◌, Some, None, Option, ◌==◌, nat_le, nat_lt}
+use Rattle.std.specs.Prelude.{ℕ, ◌+◌, min, max, Bool, cond, ◌&&◌, ◌||◌, Some, None, Option, ◌==◌, nat_le, nat_lt}
 use Rattle.measure.specs.Measures.{Functions}
 use Rattle.measure.specs.declared.simple.MarkedDepth.{MarkedDepth}
 

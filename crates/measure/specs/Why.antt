@@ -1,7 +1,7 @@
 -- Why marks rank before depth, and why too many marks give nothing: the other choices break the second law.
-use Rattle.std.specs.Prelude.{◌≡◌, ℕ, ◌+◌, ◌≤◌, min, Bool, true, false, ◌&&◌, ◌||◌, Some, Option, ◌==◌, nat_le, nat_lt}
+use Rattle.std.specs.Prelude.{◌≡◌, ℕ, ◌+◌, ◌≤◌, min, true, ◌&&◌, ◌||◌, Some, Option, ◌==◌, nat_le, nat_lt}
 use Rattle.measure.specs.Measures.{Functions, NoWorse}
-use Rattle.measure.specs.Products.{deeper, stacked, cell_depth, with_marks, marked}
+use Rattle.measure.specs.Products.{deeper, stacked, marked}
 use Rattle.measure.specs.declared.simple.MarkedDepth.{MarkedDepth}
 
 -- both numbers of an amount are in range

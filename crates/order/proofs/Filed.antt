@@ -1,7 +1,7 @@
 -- What stands in the file of an order, piece by piece, and how a fill goes through it.
-use Rattle.std.proofs.Common.{◌≡◌, ℕ, zero, suc, ◌+◌, ◌-◌, ◌*◌, ◌/◌, ◌%◌, ◌<◌, ◌≤◌, true, List, [], ◌∷◌, ◌++◌, map, length, get_or, take, drop, set, Ok, Err, Result, sym, refl, ap, ◌∙◌, subst, arith}
+use Rattle.std.proofs.Common.{◌≡◌, ℕ, suc, ◌+◌, ◌-◌, ◌*◌, ◌/◌, ◌%◌, ◌<◌, ◌≤◌, List, [], ◌∷◌, ◌++◌, map, length, get_or, take, drop, set, Ok, Err, Result, sym, refl, ap, ◌∙◌, subst, arith}
 use Rattle.std.specs.List.{flat_map, AllByRecursion as All}
-use Rattle.std.proofs.lemmas.List.{append_assoc, append-nil, take_more_set, take_at, drop_at, drop-drop, drop-set-lt, get_or-drop, length-append, length-map, length-drop, map-append}
+use Rattle.std.proofs.lemmas.List.{append_assoc, take_more_set, take_at, drop_at, drop-drop, drop-set-lt, get_or-drop, length-append, length-map, length-drop, map-append}
 use Rattle.fault.specs.declared.refusal.Fault.{Fault}
 use Rattle.std.proofs.lemmas.Bool.{le-leb, lt-leb}
 use Rattle.fault.specs.declared.refusal.Refusal.TheVariants.{Memory}
@@ -10,11 +10,11 @@ use Rattle.measure.specs.Measures.{Functions}
 use Rattle.measure.specs.Filing.{Filing}
 use Rattle.page.specs.Pieces.{Held}
 use Rattle.page.specs.Puts.{putting, put_leaves, with_piece}
-use Rattle.order.specs.Order.{FiledSetting, Order, pair, Figure, InRange, spelt, settings, count_figure, width_figure, pair_figures, figures, bytes, Reads}
+use Rattle.order.specs.Order.{FiledSetting, Order, pair, InRange, spelt, settings, count_figure, width_figure, pair_figures, Reads}
 use Rattle.order.specs.declared.head.Figures.{Figures}
 use Rattle.order.specs.Format.{number_at}
 use Rattle.order.specs.Told.{head, Told, Settled}
-use Rattle.order.specs.Fills.{widths_of, amounts_of, Outcome, go_on, filling, amounts_at, said_of, Spells, AllPut, Filled}
+use Rattle.order.specs.Fills.{widths_of, amounts_of, go_on, filling, amounts_at, said_of, Spells, AllPut, Filled}
 
 -- one more amount made: those made so far, and those still to come, are all
 pub amount_made : {A : Type 0} (f : Filing A) (file : List ℕ) (from count j : ℕ) (scratch : List A) (v : A) → j < count → j < length scratch → v ≡ f.amount (number_at pair file (from + 4 * j)) (number_at pair file (from + 4 * j + 2)) → take j scratch ++ amounts_at f file (from + 4 * j) (count - j) ≡ amounts_at f file from count → take (j + 1) (set scratch j v) ++ amounts_at f file (from + 4 * (j + 1)) (count - (j + 1)) ≡ amounts_at f file from count

@@ -1,5 +1,5 @@
 -- Examples of orders and their bytes, computed by the checker.
-use Rattle.std.specs.Prelude.{◌≡◌, ℕ, List, [], ◌∷◌, ◌++◌, map, replicate, Ok, Err, codes, refl}
+use Rattle.std.specs.Prelude.{◌≡◌, ℕ, [], ◌∷◌, ◌++◌, replicate, Ok, Err, codes, refl}
 use Rattle.std.specs.Fmt.{digits}
 use Rattle.fault.specs.declared.refusal.Refusal.TheVariants.{Width}
 use Rattle.fault.specs.Faults.{fault_at, of_piece}

@@ -5,7 +5,7 @@ use Rattle.fault.specs.declared.refusal.Refusal.TheVariants.{FileEndsEarly, Figu
 use Rattle.fault.specs.declared.refusal.Fault.{Fault}
 use Rattle.fault.specs.Faults.{fault_at}
 use Rattle.order.specs.declared.head.Figures.{Figures}
-use Rattle.order.specs.Order.{Order, Figure, InRange, figures, spelt, bytes, Reads, GoodFile, Begins}
+use Rattle.order.specs.Order.{Order, Figure, InRange, figures, spelt, Reads, GoodFile, Begins}
 
 -- the figures at the head of an order
 abbrev pub head : Order → Figures

@@ -1,9 +1,9 @@
 -- What `scroll` says of a file, from what its calls answer.
 use Rattle.std.proofs.Common.{◌≡◌, ℕ, ◌+◌, ◌≤◌, Bool, true, false, cond, leb, List, [], ◌∷◌, length, Ok, Err, Result, sym, refl, ap, ◌∙◌, subst, arith}
 use Rattle.std.proofs.lemmas.Bool.{le-leb}
-use Rattle.fault.specs.declared.refusal.Refusal.TheVariants.{Memory, PageFull}
+use Rattle.fault.specs.declared.refusal.Refusal.TheVariants.{Memory}
 use Rattle.fault.specs.declared.refusal.Fault.{Fault}
-use Rattle.fault.specs.Faults.{fault, of_piece, then}
+use Rattle.fault.specs.Faults.{fault}
 use Rattle.fault.specs.Lines.{refusal_text}
 use Rattle.fault.specs.Written.{overwrite, Written}
 use Rattle.fault.proofs.Overwrite.{written_ok}
@@ -17,7 +17,6 @@ use Rattle.order.specs.Order.{FiledSetting, Order, Reads}
 use Rattle.order.specs.Told.{head, Told, Settled}
 use Rattle.order.specs.Fills.{widths_of, amounts_of, Outcome, go_on, filling, Filled}
 use Rattle.order.specs.Headings.{heading}
-use Rattle.scroll.specs.declared.summary.Reply.{Reply}
 use Rattle.scroll.specs.Summary.{fresh, scrolled, Lined, Summed, Says, SaysOf, Replied}
 
 unlike : {X E : Type 0} {x : X} {e : E} → ◌≡◌ {A = Result X E} (Ok x) (Err e) → ⊥

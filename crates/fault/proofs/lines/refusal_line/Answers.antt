@@ -1,11 +1,11 @@
-use Rattle.std.proofs.Common.{◌≡◌, ℕ, ◌+◌, ◌^◌, ◌<◌, ◌≤◌, List, [], ◌++◌, length, Some, None, Ok, Err, codes, Result, sym, refl, ap, ◌∙◌, subst, arith}
+use Rattle.std.proofs.Common.{◌≡◌, ℕ, ◌^◌, ◌<◌, ◌≤◌, List, ◌++◌, length, Some, None, Ok, codes, Result, sym, ap, ◌∙◌, subst, arith}
 use Rattle.fault.specs.declared.refusal.Fault.{Fault}
 use Rattle.std.proofs.lemmas.List.{length-append, append-nil, append_assoc}
 use Rattle.fault.specs.declared.refusal.Layer.{Layer}
 use Rattle.fault.specs.declared.refusal.Layer.TheVariants.{Page, Text, Order}
 use Rattle.fault.specs.Faults.{number, layer}
 use Rattle.fault.specs.Lines.{refusal_text, spaced, piece_text}
-use Rattle.fault.specs.Written.{labelled, overwrite, Written}
+use Rattle.fault.specs.Written.{labelled, Written}
 use Rattle.fault.proofs.Overwrite.{wrote_none, Stood, stood, stood_more, stood_written, not_refused, labelled_short}
 use Rattle.fault.proofs.lines.refusal_line.Goals as goal
 

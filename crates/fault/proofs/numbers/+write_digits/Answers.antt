@@ -1,4 +1,4 @@
-use Rattle.std.proofs.Common.{◌/◌, arith}
+use Rattle.std.proofs.Common.{arith}
 use Rattle.fault.proofs.Overwrite.{last_digit, one_digit, wrote_one, wrote_last}
 use Rattle.fault.proofs.numbers.+write_digits.Goals as goal
 

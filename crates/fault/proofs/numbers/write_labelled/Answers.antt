@@ -1,8 +1,8 @@
-use Rattle.std.proofs.Common.{◌+◌, ◌<◌, ◌≤◌, length, decimal, refl, ap, ◌∙◌, inl, inr, arith}
+use Rattle.std.proofs.Common.{◌+◌, length, decimal, ap, ◌∙◌, arith}
 use Rattle.std.proofs.lemmas.List.{length-append}
 use Rattle.std.proofs.lemmas.Fmt.{decimal_nonempty}
 use Rattle.fault.specs.Written.{overwrite, labelled}
-use Rattle.fault.proofs.Overwrite.{wrote, wrote_none, overwrite_more, length-overwrite}
+use Rattle.fault.proofs.Overwrite.{wrote, wrote_none, overwrite_more}
 use Rattle.fault.proofs.numbers.write_labelled.Goals as goal
 
 pub returns-then-label-room : goal.returns-then-label-room

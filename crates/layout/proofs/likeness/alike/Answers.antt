@@ -1,4 +1,4 @@
-use Rattle.std.proofs.Common.{◌≡◌, ℕ, true, false, refl, ap, arith}
+use Rattle.std.proofs.Common.{refl, arith}
 use Rattle.layout.proofs.Agreeing.{agree_more, not_alike, all_alike}
 use Rattle.layout.proofs.likeness.alike.Goals as goal
 

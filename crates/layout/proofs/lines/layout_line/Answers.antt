@@ -1,6 +1,5 @@
-use Rattle.std.proofs.Common.{◌≡◌, ◌≤◌, length, sym, refl, ◌∙◌}
+use Rattle.std.proofs.Common.{◌≤◌, length, sym, refl, ◌∙◌}
 use Rattle.std.proofs.lemmas.Bool.{leb-true}
-use Rattle.layout.specs.Texts.{front_text}
 use Rattle.layout.proofs.Lined.{room_for_plan, plan_written}
 use Rattle.layout.proofs.lines.layout_line.Goals as goal
 

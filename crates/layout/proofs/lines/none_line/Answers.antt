@@ -1,7 +1,7 @@
-use Rattle.std.proofs.Common.{◌≡◌, ◌≤◌, ◌++◌, length, codes, decimal, sym, ◌∙◌, subst, arith}
+use Rattle.std.proofs.Common.{◌≤◌, ◌++◌, length, codes, decimal, sym, ◌∙◌, subst, arith}
 use Rattle.std.proofs.lemmas.Bool.{leb-true}
 use Rattle.fault.specs.Written.{Written}
-use Rattle.layout.proofs.Lined.{Filled, width_filled, more_filled, filled_written, filled_answered}
+use Rattle.layout.proofs.Lined.{width_filled, more_filled, filled_written, filled_answered}
 use Rattle.layout.proofs.lines.none_line.Goals as goal
 
 pub returns-in_err-at : goal.returns-in_err-at

@@ -1,4 +1,4 @@
-use Rattle.std.proofs.Common.{◌≡◌, ◌≤◌, ◌++◌, length, codes, decimal, sym, ◌∙◌, subst, arith}
+use Rattle.std.proofs.Common.{◌≤◌, ◌++◌, length, codes, decimal, sym, ◌∙◌, subst, arith}
 use Rattle.std.proofs.lemmas.Bool.{leb-true}
 use Rattle.fault.specs.Written.{Written}
 use Rattle.layout.proofs.Lined.{Filled, width_filled, more_filled, filled_written, filled_answered}

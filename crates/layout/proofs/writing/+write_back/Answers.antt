@@ -1,6 +1,5 @@
-use Rattle.std.proofs.Common.{◌≡◌, ℕ, ◌-◌, ◌<◌, ◌≤◌, length, get_or, set, sym, ap, ◌∙◌, subst, arith}
+use Rattle.std.proofs.Common.{ℕ, ◌-◌, ◌<◌, ◌≤◌, length, set, sym, ◌∙◌, subst, arith}
 use Rattle.std.proofs.lemmas.List.{length-set}
-use Rattle.layout.specs.Texts.{opening, closing}
 use Rattle.layout.specs.Readings.{Room, WroteOf, Wrote}
 use Rattle.layout.proofs.Endings.{some_entry}
 use Rattle.layout.proofs.Back.{count, alone, Parts, parts, cell_done, right_room, left_room, falls, first_place, cut_done}

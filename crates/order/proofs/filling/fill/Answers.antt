@@ -1,4 +1,4 @@
-use Rattle.std.proofs.Common.{length, Err, ap, ◌∙◌, arith}
+use Rattle.std.proofs.Common.{length, Err, ap, ◌∙◌}
 use Rattle.std.proofs.lemmas.Result.{err_from_is_err_and}
 use Rattle.page.specs.Pieces.{held}
 use Rattle.order.proofs.Filed.{spells, fill_refused, fill_short, fill_put}

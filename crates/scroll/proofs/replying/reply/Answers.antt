@@ -1,5 +1,4 @@
-use Rattle.std.proofs.Common.{length, ap, ◌∙◌, arith}
-use Rattle.page.specs.Pieces.{held}
+use Rattle.std.proofs.Common.{length, arith}
 use Rattle.scroll.proofs.Sums.{replied_told, replied_refused}
 use Rattle.scroll.proofs.replying.reply.Goals as goal
 
