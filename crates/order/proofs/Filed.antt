@@ -1,6 +1,6 @@
 -- What stands in the file of an order, piece by piece, and how a fill goes through it.
 use Rattle.std.proofs.Common.{◌≡◌, ℕ, suc, ◌+◌, ◌-◌, ◌*◌, ◌/◌, ◌%◌, ◌<◌, ◌≤◌, List, [], ◌∷◌, ◌++◌, map, length, get_or, take, drop, set, Ok, Err, Result, sym, refl, ap, ◌∙◌, subst, arith}
-use Rattle.std.specs.List.{flat_map, AllByRecursion as All}
+use Rattle.std.specs.List.{flat_map, AllByRecursion}
 use Rattle.std.proofs.lemmas.List.{append_assoc, take_more_set, take_at, drop_at, drop-drop, drop-set-lt, get_or-drop, length-append, length-map, length-drop, map-append}
 use Rattle.fault.specs.declared.refusal.Fault.{Fault}
 use Rattle.std.proofs.lemmas.Bool.{le-leb, lt-leb}
@@ -74,7 +74,7 @@ pub record Stage {A : Type 0} (m : Functions A) (f : Filing A) (file : List ℕ)
   pub left : List (List FiledSetting)
   pub fills : filling m f 0 o.pieces start ≡ filling m f k left h
   pub number : k + length left ≡ length o.pieces
-  pub small : All (λ (p : List FiledSetting). (1 ≤ length p) × (length p ≤ 8)) left
+  pub small : AllByRecursion (λ (p : List FiledSetting). (1 ≤ length p) × (length p ≤ 8)) left
   pub counts_tail : List ℕ
   pub counts : drop (5 + k) file ≡ map (λ (p : List FiledSetting). length p) left ++ counts_tail
   pub widths_tail : List ℕ
@@ -98,7 +98,7 @@ pub record Turn {A : Type 0} (m : Functions A) (f : Filing A) (file : List ℕ) 
 
 module _ {A : Type 0} {m : Functions A} {f : Filing A} {file : List ℕ} {o : Order} {start h : Held A} {k width_at pair_at : ℕ} where
   turn_of : (left : List (List FiledSetting)) → filling m f 0 o.pieces start ≡ filling m f k left h → k + length left ≡ length o.pieces → k < length o.pieces →
-      All (λ (p : List FiledSetting). (1 ≤ length p) × (length p ≤ 8)) left → (ct : List ℕ) → drop (5 + k) file ≡ map (λ (p : List FiledSetting). length p) left ++ ct →
+      AllByRecursion (λ (p : List FiledSetting). (1 ≤ length p) × (length p ≤ 8)) left → (ct : List ℕ) → drop (5 + k) file ≡ map (λ (p : List FiledSetting). length p) left ++ ct →
       (wt : List ℕ) → drop width_at file ≡ widths_of (flat left) ++ wt → drop pair_at file ≡ pair_bytes (flat left) → Turn m f file o start h k width_at pair_at
   turn_of [] fs number more small ct ce wt we pe = absurd (omega arith)
   turn_of (p ∷ rest) fs number more small ct ce wt we pe =
@@ -147,11 +147,11 @@ module _ {A : Type 0} {m : Functions A} {f : Filing A} {file : List ℕ} {o : Or
       none [] fs z = sym fs
       none (p ∷ ps) fs z = absurd (omega arith)
 
-all_front : {X : Type 0} (P : X → Type 0) (xs ys : List X) → All P (xs ++ ys) → All P xs
+all_front : {X : Type 0} (P : X → Type 0) (xs ys : List X) → AllByRecursion P (xs ++ ys) → AllByRecursion P xs
 all_front P [] ys h = tt
 all_front P (x ∷ xs) ys h = (h.0, all_front P xs ys h.1)
 
-counts_in_range : (ps : List (List FiledSetting)) → All InRange (map count_figure ps) → All (λ (p : List FiledSetting). (1 ≤ length p) × (length p ≤ 8)) ps
+counts_in_range : (ps : List (List FiledSetting)) → AllByRecursion InRange (map count_figure ps) → AllByRecursion (λ (p : List FiledSetting). (1 ≤ length p) × (length p ≤ 8)) ps
 counts_in_range [] h = tt
 counts_in_range (p ∷ ps) h = (h.0, counts_in_range ps h.1)
 

@@ -1,6 +1,6 @@
 -- The figures of an order are a path through the order format, each path is the figures of one order, and an order is told by its figures.
 use Rattle.std.proofs.Common.{◌≡◌, ℕ, zero, suc, ◌+◌, ◌≤◌, List, [], ◌∷◌, ◌++◌, map, length, take, drop, sym, refl, ap, ◌∙◌, subst, arith}
-use Rattle.std.specs.List.{flat_map, AllByRecursion as All}
+use Rattle.std.specs.List.{flat_map, AllByRecursion}
 use Rattle.std.proofs.lemmas.List.{length-append, length-drop, length-take-le, take-append-drop, take_at, append_cancel_left}
 use Rattle.order.specs.declared.head.Figures.{Figures}
 use Rattle.order.specs.Order.{FiledSetting, Order, Size, byte, pair, Figure, InRange, settings, count_figure, width_figure, pair_figures, figures}
@@ -49,21 +49,21 @@ order_open = (
 )
 
 -- ---- from an order to a path
-counts_follow : (ps : List (List FiledSetting)) (total n : ℕ) (next : ℕ → Format) (rest : List Figure) (h : Figures) → total + length (flat_map whole ps) ≡ n → All InRange (map count_figure ps ++ rest) → (All InRange rest → Follows (next n) rest h) → Follows (counts (length ps) total next) (map count_figure ps ++ rest) h
+counts_follow : (ps : List (List FiledSetting)) (total n : ℕ) (next : ℕ → Format) (rest : List Figure) (h : Figures) → total + length (flat_map whole ps) ≡ n → AllByRecursion InRange (map count_figure ps ++ rest) → (AllByRecursion InRange rest → Follows (next n) rest h) → Follows (counts (length ps) total next) (map count_figure ps ++ rest) h
 counts_follow [] total n next rest h e a k = let f : n ≡ total = omega arith in subst (λ m. Follows (next m) rest h) f (k a)
 counts_follow (p ∷ ps) total n next rest h e a k =
     let f : (total + length p) + length (flat_map whole ps) ≡ n = omega (arith, length-append p (flat_map whole ps)) in
     (refl, a.0.0, a.0.1, counts_follow ps (total + length p) n next rest h f a.1 k)
 
-widths_follow : (ss : List FiledSetting) (next : Format) (rest : List Figure) (h : Figures) → All InRange (map width_figure ss ++ rest) → (All InRange rest → Follows next rest h) → Follows (widths (length ss) next) (map width_figure ss ++ rest) h
+widths_follow : (ss : List FiledSetting) (next : Format) (rest : List Figure) (h : Figures) → AllByRecursion InRange (map width_figure ss ++ rest) → (AllByRecursion InRange rest → Follows next rest h) → Follows (widths (length ss) next) (map width_figure ss ++ rest) h
 widths_follow [] next rest h a k = k a
 widths_follow (s ∷ ss) next rest h a k = (refl, a.0.0, a.0.1, widths_follow ss next rest h a.1 k)
 
-pairs_follow : (ss : List FiledSetting) (h : Figures) → All InRange (flat_map pair_figures ss) → Follows (pairs (length ss) (done h)) (flat_map pair_figures ss) h
+pairs_follow : (ss : List FiledSetting) (h : Figures) → AllByRecursion InRange (flat_map pair_figures ss) → Follows (pairs (length ss) (done h)) (flat_map pair_figures ss) h
 pairs_follow [] h a = refl
 pairs_follow (s ∷ ss) h a = (refl, a.0.0, a.0.1, (refl, a.1.0.0, a.1.0.1, pairs_follow ss h a.1.1))
 
-pub order_follows : (o : Order) → All InRange (figures o) → Follows order_format (figures o) (head o)
+pub order_follows : (o : Order) → AllByRecursion InRange (figures o) → Follows order_format (figures o) (head o)
 order_follows o a =
     let b = a.1 in
     let c = b.1 in
@@ -92,7 +92,7 @@ order_follows o a =
     )
 
 -- ---- from a path to an order
-pub in_range_all : (t : Format) (figs : List Figure) (h : Figures) → Follows t figs h → All InRange figs
+pub in_range_all : (t : Format) (figs : List Figure) (h : Figures) → Follows t figs h → AllByRecursion InRange figs
 in_range_all (done d) [] h f = tt
 in_range_all (done d) (g ∷ gs) h f = absurd f
 in_range_all (figure size low high next) [] h f = absurd f

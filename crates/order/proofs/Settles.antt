@@ -1,6 +1,6 @@
 -- What a run over the order format answers is settled, and a file has at most one reading.
 use Rattle.std.proofs.Common.{◌≡◌, ℕ, ◌+◌, ◌≤◌, List, [], ◌∷◌, ◌++◌, length, get_or, Ok, Err, Result, sym, ap, ◌∙◌, subst, inl, inr, arith, w8, Fits}
-use Rattle.std.specs.List.{flat_map, AllByRecursion as All}
+use Rattle.std.specs.List.{flat_map, AllByRecursion}
 use Rattle.fault.specs.declared.refusal.Fault.{Fault}
 use Rattle.order.specs.declared.head.Figures.{Figures}
 use Rattle.order.specs.Order.{Order, Figure, InRange, figures, spelt, Reads}
@@ -19,7 +19,7 @@ record Read (w : List ℕ) (h : Figures) : Type 0 where
   reads : Reads w order
   ends : head order ≡ h
 
-good : (o : Order) (figs : List Figure) (h : Figures) → figures o ≡ figs → Follows order_format figs h → All InRange (figures o)
+good : (o : Order) (figs : List Figure) (h : Figures) → figures o ≡ figs → Follows order_format figs h → AllByRecursion InRange (figures o)
 good o figs h e f = in_range_all order_format (figures o) h (subst (λ l. Follows order_format l h) (sym e) f)
 
 read : (w : List ℕ) (h : Figures) → Spells order_format [] w h → Read w h

@@ -1,6 +1,6 @@
 -- The order file as data: an order, its figures in file order with their ranges, and its bytes.
 use Rattle.std.specs.Prelude.{◌≡◌, ℕ, ◌/◌, ◌%◌, ◌≤◌, List, [], ◌∷◌, ◌++◌, map, length}
-use Rattle.std.specs.List.{flat_map, AllByRecursion as All}
+use Rattle.std.specs.List.{flat_map, AllByRecursion}
 
 -- a setting as an order files it: a width, and a pair of marks and depth
 pub record FiledSetting : Type 0 where
@@ -73,7 +73,7 @@ bytes o = flat_map spelt (figures o)
 
 -- these bytes are those of the order, and all its figures are in range
 pub record Reads (file : List ℕ) (o : Order) : Type 0 where
-  pub good : All InRange (figures o)
+  pub good : AllByRecursion InRange (figures o)
   pub spells : bytes o ≡ file
 
 -- the file is that of some order

@@ -1,6 +1,6 @@
 -- What a check tells of a file, by what is an order's bytes and what begins them.
 use Rattle.std.specs.Prelude.{◌≡◌, ℕ, ◌+◌, ◌<◌, ◌≤◌, ◌⊎◌, List, ◌∷◌, ◌++◌, length, take, Ok, Err, Result, slice_index}
-use Rattle.std.specs.List.{flat_map, AllByRecursion as All}
+use Rattle.std.specs.List.{flat_map, AllByRecursion}
 use Rattle.fault.specs.declared.refusal.Refusal.TheVariants.{FileEndsEarly, FigureOutOfRange, FileGoesOn}
 use Rattle.fault.specs.declared.refusal.Fault.{Fault}
 use Rattle.fault.specs.Faults.{fault_at}
@@ -25,7 +25,7 @@ pub record OutOfRange (file : List ℕ) (place : ℕ) : Type 0 where
   pub before : List Figure
   pub due : Figure
   pub after : List Figure
-  pub good : All InRange (figures order)
+  pub good : AllByRecursion InRange (figures order)
   pub split : figures order ≡ before ++ due ∷ after
   pub read : flat_map spelt before ≡ take place file
   pub from : length (flat_map spelt before) ≡ place
