@@ -21,9 +21,9 @@ use summary::Reply;
 const FILE_ROOM: usize = 512;
 
 fn main(rt: HostRuntime) -> anyhow::Result<()> {
-    let mut file = (vec![in rt.alloc(); 0u8; FILE_ROOM])?;
-    let mut width_table = (vec![in rt.alloc(); 0u8; TABLE_PLACES])?;
-    let mut amount_table = (vec![in rt.alloc(); 0u16; TABLE_PLACES])?;
+    let mut file = vec![in rt.alloc(); 0u8; FILE_ROOM]?;
+    let mut width_table = vec![in rt.alloc(); 0u8; TABLE_PLACES]?;
+    let mut amount_table = vec![in rt.alloc(); 0u16; TABLE_PLACES]?;
     let mut scratch = [0u16; SCRATCH_PLACES];
     let mut line = [0u8; LINE_ROOM];
     let mut page = Page::new();
