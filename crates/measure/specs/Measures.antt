@@ -22,7 +22,7 @@ NoWorse no_worse None (Some b) = ⊥
 abbrev pub Monotone : {A : Type 0} → (A → A → Bool) → (A → A → Option A) → Type 0
 Monotone {A} no_worse cut = (a a' b b' : A) → no_worse a a' ≡ true → no_worse b b' ≡ true → NoWorse no_worse (cut a b) (cut a' b')
 
--- the first law, that no-worse is a total preorder, in three parts; and the second, that both cuts are monotone
+-- the first law, that no_worse is a total preorder, in three parts; and the second, that both cuts are monotone
 pub record Laws {A : Type 0} (m : Functions A) : Type 0 where
   pub itself : (a : A) → m.no_worse a a ≡ true
   pub total : (a b : A) → (m.no_worse a b ≡ true) ⊎ (m.no_worse b a ≡ true)

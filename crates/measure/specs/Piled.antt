@@ -1,6 +1,7 @@
 -- Each layer keeps the laws of the measure below it. Assumes nothing.
 use Rattle.std.specs.Prelude.{◌≡◌, Bool, true, false, cond, Some, None, Option, refl}
-use Rattle.std.proofs.Common.{arith}
+use Rattle.std.proofs.Common.{sym, ◌∙◌}
+use Rattle.std.proofs.lemmas.Bool.{false≢true}
 use Rattle.measure.specs.Measures.{Functions, Laws, NoWorse}
 use Rattle.measure.specs.Products.{gutter, ceiling, then, kept}
 
@@ -23,7 +24,7 @@ module _ {A : Type 0} (m : Functions A) (laws : Laws m) where
   chosen : (c a a' : A) (u v : Bool) → m.no_worse a a' ≡ true → m.no_worse a c ≡ u → m.no_worse a' c ≡ v → NoWorse m.no_worse (cond u (Some a) None) (cond v (Some a') None)
   chosen c a a' u false h p q = tt
   chosen c a a' true true h p q = h
-  chosen c a a' false true h p q = let kept : m.no_worse a c ≡ true = laws.chain a a' c h q in absurd (grind arith)
+  chosen c a a' false true h p q = let kept : m.no_worse a c ≡ true = laws.chain a a' c h q in absurd (false≢true (sym p ∙ kept))
 
   pub ceiling_laws : (c : A) → Laws (ceiling m c)
   ceiling_laws c = record {

@@ -8,19 +8,19 @@ mod summary;
 #[cfg(test)]
 mod tests;
 
-use anyhow::anyhow;
 use fault::LINE_ROOM;
 use input::read_order;
 use order::SCRATCH_PLACES;
 use page::{Page, TABLE_PLACES};
 use replying::reply;
 use std::io::Write;
+use std::process::ExitCode;
 use summary::Reply;
 
 // The most bytes that are read; the longest good order has 497.
 const FILE_ROOM: usize = 512;
 
-fn main(rt: HostRuntime) -> anyhow::Result<()> {
+fn main(rt: HostRuntime) -> anyhow::Result<ExitCode> {
     let mut file = vec![in rt.alloc(); 0u8; FILE_ROOM]?;
     let mut width_table = vec![in rt.alloc(); 0u8; TABLE_PLACES]?;
     let mut amount_table = vec![in rt.alloc(); 0u16; TABLE_PLACES]?;
@@ -40,9 +40,9 @@ fn main(rt: HostRuntime) -> anyhow::Result<()> {
     let mut out = rt.stdout();
     out.write_all(&line[0..end])?;
     out.write_all(b"\n")?;
-    if accepted {
-        Ok(())
+    Ok(if accepted {
+        ExitCode::SUCCESS
     } else {
-        Err(anyhow!("the order was refused"))
-    }
+        ExitCode::FAILURE
+    })
 }
