@@ -1,12 +1,13 @@
 // Sets of pieces, and codes packed and taken apart.
+use fault::{Fault, Refusal};
 use layout::Code;
 use layout::sets::{holds, with_piece};
 use std::process::Abort;
 
-// The code packs into the word, and the word says the code again.
+// The code has the word, and the word says the code again.
 fn is_word(rt: &impl Abort, code: Code, word: u32) {
-    assert_eq!(rt; code.pack(), Some(word));
-    assert_eq!(rt; Code::unpack(word), Some(code));
+    assert_eq!(rt; u32::try_from(code), Ok(word));
+    assert_eq!(rt; Code::try_from(word), Ok(code));
 }
 
 // Each kind at its least and at its limits.
@@ -50,7 +51,7 @@ fn codes_have_words(rt: HostRuntime) {
     ];
     for (code, word) in cases {
         is_word(&rt, code, word);
-        assert_eq!(rt; u32::from(code.kind()), word % 4);
+        assert_eq!(rt; u32::from(u8::from(code.kind())), word % 4);
     }
 }
 
@@ -77,7 +78,7 @@ fn large_parts_have_no_word(rt: HostRuntime) {
         },
     ];
     for code in cases {
-        assert_eq!(rt; code.pack(), None);
+        assert_eq!(rt; u32::try_from(code), Err(Fault::from(Refusal::SpoiledCode)));
     }
 }
 
@@ -88,7 +89,11 @@ fn unused_bits_make_no_code(rt: HostRuntime) {
     for (kind, used) in used_bits {
         for bit in used..32 {
             let word = 1 << bit | kind;
-            assert_eq!(rt; Code::unpack(word), None, "kind {kind}, bit {bit}");
+            assert_eq!(rt;
+                Code::try_from(word),
+                Err(Fault::from(Refusal::SpoiledCode)),
+                "kind {kind}, bit {bit}"
+            );
         }
     }
 }

@@ -1,13 +1,15 @@
 // Filed measures: amounts made from filed pairs, and amounts written.
 ghost use Rattle.std.specs.Prelude.{◌≡◌};
 
-use fault::{Fault, Refusal};
+use fault::{Refusal, Writer};
 use measure::{Ceiling, Depth, Filed, Gutter, Marked, MarkedDepth};
 use std::process::Abort;
 
 // Both layers over a measure, with no gap and no limit that counts.
 fn layered<M: Filed>(m: M) -> Ceiling<Gutter<M>>
-    ensures { result.lower.lower ≡ m }
+    ensures lower { result.lower.lower ≡ m }
+    ensures gap { result.lower.gap ≡ (M.filing m).amount 0 0 }
+    ensures limit { result.limit ≡ (M.filing m).amount 65535 65535 }
 {
     let gap = m.amount(0, 0);
     let limit = m.amount(65535, 65535);
@@ -19,23 +21,27 @@ fn layered<M: Filed>(m: M) -> Ceiling<Gutter<M>>
 
 // The amount of each filed pair (marks, depth) is written from place 2 on; the rest of the buffer stays.
 fn writes<M: Filed>(rt: &impl Abort, m: &M, cases: &[(u16, u16, &[u8; 18], usize)]) {
-    for (marks, depth, after, behind) in cases {
+    for &(marks, depth, after, behind) in cases {
         let mut out = [b'.'; 18];
-        let amount = m.amount(*marks, *depth);
-        assert_eq!(rt; m.write(amount, &mut out, 2), Ok(*behind));
-        assert_eq!(rt; &out, *after, "{marks} marks, {depth} lines");
+        let mut writer = Writer {
+            out: &mut out,
+            at: 2,
+        };
+        let amount = m.amount(marks, depth);
+        assert_eq!(rt; m.write(amount, &mut writer), Ok(()));
+        assert_eq!(rt; writer.at, behind, "{marks} marks, {depth} lines");
+        assert_eq!(rt; &out, after, "{marks} marks, {depth} lines");
     }
 }
 
-// With fewer than 16 bytes from the place on, nothing is written, however short the text.
+// With fewer than 16 bytes from the place on, nothing is written, however short the text, and the writer stays at its place.
 fn wants_16_bytes<M: Filed>(rt: &impl Abort, m: &M) {
     for at in [3, 17, 18, 19, usize::MAX] {
         let mut out = [b'.'; 18];
+        let mut writer = Writer { out: &mut out, at };
         let amount = m.amount(0, 0);
-        assert_eq!(rt;
-            m.write(amount, &mut out, at),
-            Err(Fault::new(Refusal::Memory))
-        );
+        assert_eq!(rt; m.write(amount, &mut writer), Err(Refusal::Memory.into()));
+        assert_eq!(rt; writer.at, at);
         assert_eq!(rt; out, [b'.'; 18], "at {at}");
     }
 }

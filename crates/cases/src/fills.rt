@@ -1,9 +1,10 @@
 // Orders put on pages.
+use crate::pages::settings_of;
 use crate::sample::SAMPLE;
 use fault::{Fault, Refusal};
 use measure::{Depth, Gutter, Marked, MarkedDepth};
 use order::fill;
-use page::Page;
+use page::{Page, Tables};
 use std::test::Fail;
 
 // Lines, with a gap of none.
@@ -19,14 +20,11 @@ fn the_sample_fills_a_page(rt: HostRuntime) -> Result<(), Fail> {
     page.open(4)?;
     let mut width_table = [77; 96];
     let mut amount_table = [7777; 96];
-    let found = fill(
-        &PLAIN,
-        &SAMPLE,
-        &mut page,
-        &mut width_table,
-        &mut amount_table,
-        &mut [0; 8],
-    );
+    let tables = &mut Tables {
+        widths: &mut width_table,
+        amounts: &mut amount_table,
+    };
+    let found = fill(&PLAIN, &SAMPLE, &mut page, tables, &mut [0; 8]);
     assert_eq!(rt; found, Ok(3));
     assert_eq!(rt; (page.breadth(), page.count()), (4, 3));
     let mut widths = [77; 96];
@@ -69,23 +67,20 @@ fn pieces_before_a_refusal_stay(rt: HostRuntime) -> Result<(), Fail> {
         file[at] = byte;
         let mut page = Page::new();
         page.open(4)?;
-        let width_table = &mut [77; 96][..];
-        let amount_table = &mut [7777; 96][..];
-        let found = fill(
-            &PLAIN,
-            &file,
-            &mut page,
-            width_table,
-            amount_table,
-            &mut [0; 8],
-        );
+        let mut width_table = [77; 96];
+        let mut amount_table = [7777; 96];
+        let tables = &mut Tables {
+            widths: &mut width_table,
+            amounts: &mut amount_table,
+        };
+        let found = fill(&PLAIN, &file, &mut page, tables, &mut [0; 8]);
         assert_eq!(rt; found, answer, "{byte} at {at}");
         assert_eq!(rt; page.count(), count, "{byte} at {at}");
-        for piece in 0..12u8 {
-            let place = 8 * usize::from(piece);
-            let stays = width_table.get(place) == Some(&77)
-                && amount_table.get(place) == Some(&7777);
-            assert_eq!(rt; stays, piece >= count, "piece {piece}, {byte} at {at}");
+        let first_places = width_table.iter().zip(&amount_table).step_by(8);
+        for (piece, (&width, &amount)) in first_places.enumerate() {
+            let stays = width == 77 && amount == 7777;
+            let due = piece >= usize::from(count);
+            assert_eq!(rt; stays, due, "piece {piece}, {byte} at {at}");
         }
     }
     Ok(())
@@ -94,7 +89,7 @@ fn pieces_before_a_refusal_stay(rt: HostRuntime) -> Result<(), Fail> {
 // The file is checked first, then the scratch of 8 amounts, and the tables of 96 places only with the first piece.
 #[test]
 fn short_memory_is_refused(rt: HostRuntime) {
-    let memory = Fault::new(Refusal::Memory);
+    let memory = Fault::from(Refusal::Memory);
     let cases = [
         (42, 7, 95, 95, Err(Fault::at(Refusal::FileEndsEarly, 42)), 0),
         (43, 7, 96, 96, Err(memory), 0),
@@ -109,13 +104,16 @@ fn short_memory_is_refused(rt: HostRuntime) {
         let mut page = Page::new();
         let mut width_table = [77; 96];
         let mut amount_table = [7777; 96];
+        let tables = &mut Tables {
+            widths: &mut width_table[..wide],
+            amounts: &mut amount_table[..deep],
+        };
         let found = fill(
             &PLAIN,
-            &SAMPLE[0..length],
+            &SAMPLE[..length],
             &mut page,
-            &mut width_table[0..wide],
-            &mut amount_table[0..deep],
-            &mut [0; 8][0..scratch],
+            tables,
+            &mut [0; 8][..scratch],
         );
         assert_eq!(rt; found, answer, "scratch {scratch}, tables {wide} {deep}");
         assert_eq!(rt; page.count(), count);
@@ -127,7 +125,7 @@ fn short_memory_is_refused(rt: HostRuntime) {
 // The sample behind pieces that are there: the page is full at 12, said of the piece of the file that found no place.
 #[test]
 fn full_pages_are_refused(rt: HostRuntime) -> Result<(), Fail> {
-    let full = Fault::new(Refusal::PageFull);
+    let full = Fault::from(Refusal::PageFull);
     let cases = [
         (9, Ok(3)),
         (10, Err(full.of_piece(2))),
@@ -136,20 +134,15 @@ fn full_pages_are_refused(rt: HostRuntime) -> Result<(), Fail> {
     ];
     for (there, answer) in cases {
         let mut page = Page::new();
-        let width_table = &mut [0; 96][..];
-        let amount_table = &mut [0; 96][..];
+        let tables = &mut Tables {
+            widths: &mut [0; 96],
+            amounts: &mut [0; 96],
+        };
         for _ in 0..there {
-            page.put(&PLAIN, &[1], &[1], width_table, amount_table)?;
+            page.put(&PLAIN, settings_of(&[1], &[1]), tables)?;
         }
         assert_eq!(rt; page.count(), there);
-        let found = fill(
-            &PLAIN,
-            &SAMPLE,
-            &mut page,
-            width_table,
-            amount_table,
-            &mut [0; 8],
-        );
+        let found = fill(&PLAIN, &SAMPLE, &mut page, tables, &mut [0; 8]);
         assert_eq!(rt; found, answer, "behind {there}");
         assert_eq!(rt; page.count(), 12);
     }
@@ -165,22 +158,16 @@ fn the_measure_makes_the_amounts(rt: HostRuntime) {
     file[21] = 9;
     let none = MarkedDepth { marks: 0, depth: 0 };
     let mut page = Page::new();
-    let found = fill(
-        &Depth,
-        &file,
-        &mut page,
-        &mut [0; 96],
-        &mut [0; 96],
-        &mut [0; 8],
-    );
+    let lines = &mut Tables {
+        widths: &mut [0; 96],
+        amounts: &mut [0; 96],
+    };
+    let found = fill(&Depth, &file, &mut page, lines, &mut [0; 8]);
     assert_eq!(rt; found, Err(Fault::at(Refusal::Amount, 1).of_piece(0)));
-    let found = fill(
-        &Marked,
-        &file,
-        &mut page,
-        &mut [0; 96],
-        &mut [none; 96],
-        &mut [none; 8],
-    );
+    let marks = &mut Tables {
+        widths: &mut [0; 96],
+        amounts: &mut [none; 96],
+    };
+    let found = fill(&Marked, &file, &mut page, marks, &mut [none; 8]);
     assert_eq!(rt; found, Ok(3));
 }

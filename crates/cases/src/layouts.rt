@@ -1,17 +1,17 @@
 // Entries compared, and the lines that they make.
 use crate::lines::begins_with;
 use fault::{Fault, Refusal};
-use layout::{Entry, Kind, alike, layout_line, none_line};
+use layout::{Cut, Entry, Kind, alike, layout_line, none_line};
 use measure::{Depth, Marked, MarkedDepth};
 
 const ABOVE: Entry = Entry {
-    kind: Kind::Above,
+    kind: Kind::Cut(Cut::Above),
     piece: 0,
     setting: 0,
 };
 
 const BESIDE: Entry = Entry {
-    kind: Kind::Beside,
+    kind: Kind::Cut(Cut::Beside),
     piece: 0,
     setting: 0,
 };
@@ -28,9 +28,9 @@ fn cell(piece: u8, setting: u8) -> Entry {
 // The numbers of the kinds.
 #[test]
 fn kinds_are_numbered(rt: HostRuntime) {
-    assert_eq!(rt; Kind::Cell.number(), 0);
-    assert_eq!(rt; Kind::Above.number(), 1);
-    assert_eq!(rt; Kind::Beside.number(), 2);
+    assert_eq!(rt; u8::from(Kind::Cell), 0);
+    assert_eq!(rt; u8::from(Kind::Cut(Cut::Above)), 1);
+    assert_eq!(rt; u8::from(Kind::Cut(Cut::Beside)), 2);
 }
 
 // Kind, piece and length count, and settings do not. Each pair is tried both ways round.
@@ -83,7 +83,7 @@ fn layouts_have_lines(rt: HostRuntime) {
         let mut short = [b'#'; 79];
         assert_eq!(rt;
             layout_line(&Depth, width, depth, entries, &mut short),
-            Err(Fault::new(Refusal::Memory))
+            Err(Fault::from(Refusal::Memory))
         );
         begins_with(&rt, &short, b"");
         let mut line = [b'#'; 80];
@@ -172,7 +172,7 @@ fn the_longest_layouts_have_lines(rt: HostRuntime) {
         // without its last entry it is none, whatever stands before it
         assert_eq!(rt;
             layout_line(&Marked, 24, amount, &entries[0..22], &mut line),
-            Err(Fault::new(Refusal::SpoiledCode))
+            Err(Fault::from(Refusal::SpoiledCode))
         );
         begins_with(&rt, &line, text);
     }
@@ -204,7 +204,7 @@ fn other_entries_have_no_line(rt: HostRuntime) {
             cell(0, 0),
             cell(1, 0),
             Entry {
-                kind: Kind::Above,
+                kind: Kind::Cut(Cut::Above),
                 piece: 1,
                 setting: 0,
             },
@@ -213,7 +213,7 @@ fn other_entries_have_no_line(rt: HostRuntime) {
             cell(0, 0),
             cell(1, 0),
             Entry {
-                kind: Kind::Beside,
+                kind: Kind::Cut(Cut::Beside),
                 piece: 0,
                 setting: 1,
             },
@@ -226,13 +226,13 @@ fn other_entries_have_no_line(rt: HostRuntime) {
         let mut short = [b'#'; 79];
         assert_eq!(rt;
             layout_line(&Depth, 1, 1, entries, &mut short),
-            Err(Fault::new(Refusal::Memory))
+            Err(Fault::from(Refusal::Memory))
         );
         begins_with(&rt, &short, b"");
         let mut line = [b'#'; 80];
         assert_eq!(rt;
             layout_line(&Depth, 1, 1, entries, &mut line),
-            Err(Fault::new(Refusal::SpoiledCode))
+            Err(Fault::from(Refusal::SpoiledCode))
         );
         begins_with(&rt, &line, b"");
     }
@@ -251,7 +251,7 @@ fn no_layout_has_a_line(rt: HostRuntime) {
         let mut short = [b'#'; 79];
         assert_eq!(rt;
             none_line(width, &mut short),
-            Err(Fault::new(Refusal::Memory))
+            Err(Fault::from(Refusal::Memory))
         );
         begins_with(&rt, &short, b"");
         let mut line = [b'#'; 80];

@@ -1,6 +1,6 @@
 // The lines that say what stands on a page and what was refused.
+use crate::pages::{put_apart, settings_of};
 use fault::{Fault, Refusal, refusal_line};
-use measure::Depth;
 use order::heading_line;
 use page::Page;
 use std::process::Abort;
@@ -27,12 +27,12 @@ fn a_heading_counts_pieces(rt: HostRuntime) -> Result<(), Fail> {
         let mut page = Page::new();
         page.open(breadth)?;
         for _ in 0..pieces {
-            page.put(&Depth, &[1], &[1], &mut [0; 96], &mut [0; 96])?;
+            put_apart(&rt, &mut page, settings_of(&[1], &[1]));
         }
         let mut short = [b'#'; 79];
         assert_eq!(rt;
             heading_line(&page, &mut short),
-            Err(Fault::new(Refusal::Memory))
+            Err(Refusal::Memory.into())
         );
         begins_with(&rt, &short, b"");
         let mut line = [b'#'; 80];
@@ -42,72 +42,72 @@ fn a_heading_counts_pieces(rt: HostRuntime) -> Result<(), Fail> {
     Ok(())
 }
 
-// So does a refusal's, for each refusal and with the largest place and piece.
+// So does a refusal's, for each refusal and with the largest place and piece. A fault shown is the same text.
 #[test]
-fn a_refusal_has_a_line(rt: HostRuntime) {
-    let cases: [(Fault, &[u8]); 26] = [
-        (Fault::new(Refusal::Breadth), b"refused 1 page 0"),
-        (Fault::new(Refusal::SettingCount), b"refused 2 page 0"),
-        (Fault::new(Refusal::Memory), b"refused 3 page 0"),
-        (Fault::new(Refusal::Width), b"refused 4 page 0"),
-        (Fault::new(Refusal::Amount), b"refused 5 page 0"),
-        (Fault::new(Refusal::PageFull), b"refused 6 page 0"),
-        (Fault::new(Refusal::NoSuchPiece), b"refused 7 page 0"),
-        (Fault::new(Refusal::NoPieces), b"refused 8 page 0"),
-        (Fault::new(Refusal::WidthAsked), b"refused 9 page 0"),
-        (Fault::new(Refusal::Unfinished), b"refused 10 page 0"),
-        (Fault::new(Refusal::NoLayout), b"refused 11 page 0"),
-        (Fault::new(Refusal::SpoiledCode), b"refused 12 page 0"),
-        (Fault::at(Refusal::WrongSign, 9), b"refused 13 text 9"),
-        (Fault::at(Refusal::TextEndsEarly, 10), b"refused 14 text 10"),
-        (Fault::at(Refusal::TextGoesOn, 99), b"refused 15 text 99"),
-        (Fault::at(Refusal::WrongLetter, 0), b"refused 16 text 0"),
-        (Fault::at(Refusal::PieceMissing, 1), b"refused 17 text 1"),
-        (
-            Fault::at(Refusal::FileEndsEarly, 42),
-            b"refused 18 order 42",
-        ),
+fn a_refusal_has_a_line(rt: HostRuntime) -> Result<(), Fail> {
+    let cases: [(Fault, &str); 26] = [
+        (Refusal::Breadth.into(), "refused 1 page 0"),
+        (Refusal::SettingCount.into(), "refused 2 page 0"),
+        (Refusal::Memory.into(), "refused 3 page 0"),
+        (Refusal::Width.into(), "refused 4 page 0"),
+        (Refusal::Amount.into(), "refused 5 page 0"),
+        (Refusal::PageFull.into(), "refused 6 page 0"),
+        (Refusal::NoSuchPiece.into(), "refused 7 page 0"),
+        (Refusal::NoPieces.into(), "refused 8 page 0"),
+        (Refusal::WidthAsked.into(), "refused 9 page 0"),
+        (Refusal::Unfinished.into(), "refused 10 page 0"),
+        (Refusal::NoLayout.into(), "refused 11 page 0"),
+        (Refusal::SpoiledCode.into(), "refused 12 page 0"),
+        (Fault::at(Refusal::WrongSign, 9), "refused 13 text 9"),
+        (Fault::at(Refusal::TextEndsEarly, 10), "refused 14 text 10"),
+        (Fault::at(Refusal::TextGoesOn, 99), "refused 15 text 99"),
+        (Fault::at(Refusal::WrongLetter, 0), "refused 16 text 0"),
+        (Fault::at(Refusal::PieceMissing, 1), "refused 17 text 1"),
+        (Fault::at(Refusal::FileEndsEarly, 42), "refused 18 order 42"),
         (
             Fault::at(Refusal::FigureOutOfRange, 0),
-            b"refused 19 order 0",
+            "refused 19 order 0",
         ),
-        (Fault::at(Refusal::FileGoesOn, 497), b"refused 20 order 497"),
+        (Fault::at(Refusal::FileGoesOn, 497), "refused 20 order 497"),
         // with a piece
         (
             Fault::at(Refusal::Width, 1).of_piece(2),
-            b"refused 4 page 1 piece 2",
+            "refused 4 page 1 piece 2",
         ),
         (
-            Fault::new(Refusal::Memory).of_piece(0),
-            b"refused 3 page 0 piece 0",
+            Fault::from(Refusal::Memory).of_piece(0),
+            "refused 3 page 0 piece 0",
         ),
         (
-            Fault::new(Refusal::PieceMissing).of_piece(11),
-            b"refused 17 text 0 piece 11",
+            Fault::from(Refusal::PieceMissing).of_piece(11),
+            "refused 17 text 0 piece 11",
         ),
         // the largest place and piece
         (
             Fault::at(Refusal::SpoiledCode, usize::MAX).of_piece(255),
-            b"refused 12 page 18446744073709551615 piece 255",
+            "refused 12 page 18446744073709551615 piece 255",
         ),
         (
             Fault::at(Refusal::PieceMissing, usize::MAX).of_piece(255),
-            b"refused 17 text 18446744073709551615 piece 255",
+            "refused 17 text 18446744073709551615 piece 255",
         ),
         (
             Fault::at(Refusal::FileGoesOn, usize::MAX).of_piece(255),
-            b"refused 20 order 18446744073709551615 piece 255",
+            "refused 20 order 18446744073709551615 piece 255",
         ),
     ];
     for (fault, text) in cases {
         let mut short = [b'#'; 79];
         assert_eq!(rt;
             refusal_line(fault, &mut short),
-            Err(Fault::new(Refusal::Memory))
+            Err(Refusal::Memory.into())
         );
         begins_with(&rt, &short, b"");
         let mut line = [b'#'; 80];
         assert_eq!(rt; refusal_line(fault, &mut line), Ok(text.len()));
-        begins_with(&rt, &line, text);
+        begins_with(&rt, &line, text.as_bytes());
+        let shown = format!(in rt.alloc(); "{fault}")?;
+        assert_eq!(rt; shown.as_str(), text);
     }
+    Ok(())
 }

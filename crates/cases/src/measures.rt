@@ -6,38 +6,39 @@ use std::fmt::Debug;
 use std::process::Abort;
 
 // Each amount gives this cell.
-fn makes_cells<A: Copy + PartialEq + Debug, M: Measure<Amount = A>>(
-    rt: &impl Abort,
-    m: &M,
-    cases: &[(A, Option<A>)],
-) {
-    for (a, cell) in cases {
-        assert_eq!(rt; m.cell(*a), *cell, "cell of {a:?}");
+fn makes_cells<M: Measure>(rt: &impl Abort, m: &M, cases: &[(M::Amount, Option<M::Amount>)])
+where
+    M::Amount: PartialEq + Debug,
+{
+    for &(a, cell) in cases {
+        assert_eq!(rt; m.cell(a), cell, "cell of {a:?}");
     }
 }
 
 // Each pair of amounts gives this amount beside each other, and this one above each other.
-fn cuts<A: Copy + PartialEq + Debug, M: Measure<Amount = A>>(
+fn cuts<M: Measure>(
     rt: &impl Abort,
     m: &M,
-    cases: &[(A, A, Option<A>, Option<A>)],
-) {
-    for (a, b, beside, above) in cases {
-        assert_eq!(rt; m.beside(*a, *b), *beside, "{a:?} beside {b:?}");
-        assert_eq!(rt; m.above(*a, *b), *above, "{a:?} above {b:?}");
+    cases: &[(M::Amount, M::Amount, Option<M::Amount>, Option<M::Amount>)],
+)
+where
+    M::Amount: PartialEq + Debug,
+{
+    for &(a, b, beside, above) in cases {
+        assert_eq!(rt; m.beside(a, b), beside, "{a:?} beside {b:?}");
+        assert_eq!(rt; m.above(a, b), above, "{a:?} above {b:?}");
     }
 }
 
 // In each row the first amount is better than the second, and no worse than itself.
-fn ranks<A: Copy + PartialEq + Debug, M: Measure<Amount = A>>(
-    rt: &impl Abort,
-    m: &M,
-    cases: &[(A, A)],
-) {
-    for (a, b) in cases {
-        let found = (m.no_worse(*a, *b), m.no_worse(*b, *a), m.no_worse(*a, *a));
+fn ranks<M: Measure>(rt: &impl Abort, m: &M, cases: &[(M::Amount, M::Amount)])
+where
+    M::Amount: PartialEq + Debug,
+{
+    for &(a, b) in cases {
+        let found = (m.no_worse(a, b), m.no_worse(b, a), m.no_worse(a, a));
         assert_eq!(rt; found, (true, false, true), "{a:?} and {b:?}");
-        let found = (better(m, *a, *b), better(m, *b, *a), better(m, *a, *a));
+        let found = (better(m, a, b), better(m, b, a), better(m, a, a));
         assert_eq!(rt; found, (true, false, false), "{a:?} and {b:?}");
     }
 }

@@ -1,4 +1,7 @@
 // Order files, good and bad: what `check` answers.
+ghost use Rattle.std.specs.Prelude.{◌≡◌, [], ◌∷◌, ◌++◌, replicate};
+ghost use Rattle.std.specs.List.{repeat};
+
 use crate::sample::{HEAD, SAMPLE};
 use fault::{Fault, Refusal};
 use order::Figures;
@@ -9,7 +12,7 @@ fn every_truncation_ends_early(rt: HostRuntime) {
     assert_eq!(rt; order::check(&SAMPLE), Ok(HEAD));
     for length in 0..43usize {
         let answer = Err(Fault::at(Refusal::FileEndsEarly, length));
-        assert_eq!(rt; order::check(&SAMPLE[0..length]), answer);
+        assert_eq!(rt; order::check(&SAMPLE[..length]), answer);
     }
 }
 
@@ -97,10 +100,8 @@ fn pairs_keep_their_limits(rt: HostRuntime) {
     ];
     for (at, number, head) in cases {
         assert!(rt; at < 42);
-        let [low, high] = u16::to_le_bytes(number);
         let mut file = SAMPLE;
-        file[at] = low;
-        file[at + 1] = high;
+        file[at..at + 2].copy_from_slice(&u16::to_le_bytes(number));
         let answer = head.ok_or(Fault::at(Refusal::FigureOutOfRange, at));
         assert_eq!(rt; order::check(&file), answer, "{number} at {at}");
     }
@@ -111,10 +112,10 @@ fn pairs_keep_their_limits(rt: HostRuntime) {
 fn nothing_follows_the_last_figure(rt: HostRuntime) {
     for byte in [0, 1, 255] {
         let mut file = [byte; 512];
-        file[0..43].copy_from_slice(&SAMPLE);
+        file[..43].copy_from_slice(&SAMPLE);
         for length in 44..=512usize {
             let answer = Err(Fault::at(Refusal::FileGoesOn, 43));
-            assert_eq!(rt; order::check(&file[0..length]), answer);
+            assert_eq!(rt; order::check(&file[..length]), answer);
         }
     }
 }
@@ -138,11 +139,11 @@ fn the_first_fault_is_answered(rt: HostRuntime) {
         // nine settings, and an early end
         (&[3, 4, 0, 40, 0, 2, 9][..], Refusal::FigureOutOfRange, 6),
         // half a last depth of none, and a whole one
-        (&no_last_depth[0..42], Refusal::FileEndsEarly, 42),
-        (&no_last_depth[0..43], Refusal::FigureOutOfRange, 41),
+        (&no_last_depth[..42], Refusal::FileEndsEarly, 42),
+        (&no_last_depth[..43], Refusal::FigureOutOfRange, 41),
         // too many marks, and an early end
-        (&many_marks[0..41], Refusal::FigureOutOfRange, 39),
-        (&many_marks[0..40], Refusal::FileEndsEarly, 40),
+        (&many_marks[..41], Refusal::FigureOutOfRange, 39),
+        (&many_marks[..40], Refusal::FileEndsEarly, 40),
         // nothing at all, and nothing but zeros
         (&[][..], Refusal::FileEndsEarly, 0),
         (&[0; 512][..], Refusal::FigureOutOfRange, 0),
@@ -168,16 +169,12 @@ fn the_shortest_good_file(rt: HostRuntime) {
 }
 
 // 12 pieces of 8 settings each, every figure at its high limit: 5 + 12 + 96 + 384 bytes, and one byte behind them.
-fn longest_and_a_byte() -> [u8; 498] {
+fn longest_and_a_byte() -> [u8; 498]
+    ensures { result ≡ (12 ∷ 24 ∷ 200 ∷ 64 ∷ 156 ∷ []) ++ replicate 108 8 ++ repeat 96 (232 ∷ 3 ∷ 208 ∷ 7 ∷ []) ++ (8 ∷ []) }
+{
     let mut file = [8; 498];
-    file[0..5].copy_from_slice(&[12, 24, 200, 64, 156]);
-    for setting in 0..96usize {
-        let at = 113 + 4 * setting;
-        file[at] = 232;
-        file[at + 1] = 3;
-        file[at + 2] = 208;
-        file[at + 3] = 7;
-    }
+    file[..5].copy_from_slice(&[12, 24, 200, 64, 156]);
+    file[113..497].copy_from_slice([[232, 3, 208, 7]; 96].as_flattened());
     file
 }
 
@@ -191,10 +188,10 @@ fn the_longest_good_file(rt: HostRuntime) {
         gutter: 200,
         ceiling: 40000,
     };
-    assert_eq!(rt; order::check(&file[0..497]), Ok(head));
+    assert_eq!(rt; order::check(&file[..497]), Ok(head));
     for length in 0..497usize {
         let answer = Err(Fault::at(Refusal::FileEndsEarly, length));
-        assert_eq!(rt; order::check(&file[0..length]), answer);
+        assert_eq!(rt; order::check(&file[..length]), answer);
     }
     let answer = Err(Fault::at(Refusal::FileGoesOn, 497));
     assert_eq!(rt; order::check(&file), answer);

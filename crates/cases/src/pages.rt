@@ -1,7 +1,10 @@
 // Pages opened, and pieces put on them, amended and lifted.
+ghost use Rattle.std.specs.Prelude.{◌≡◌, ◌+◌};
+
 use fault::{Fault, Refusal};
 use measure::{Depth, Marked, MarkedDepth};
-use page::Page;
+use page::{Page, Settings, Tables};
+use std::process::Abort;
 use std::test::Fail;
 
 // Eight settings that are good, and the first few of them too.
@@ -14,22 +17,41 @@ const OTHER_WIDTHS: [u8; 8] = [2, 4, 6, 9, 12, 15, 18, 22];
 
 const OTHER_DEPTHS: [u16; 8] = [9999, 999, 99, 88, 77, 66, 55, 5];
 
+// The settings of these widths and amounts.
+pub(crate) fn settings_of<'a, A>(widths: &'a [u8], amounts: &'a [A]) -> Settings<'a, A>
+    ensures wide { result.widths.now ≡ widths.now }
+    ensures deep { result.amounts.now ≡ amounts.now }
+{
+    Settings { widths, amounts }
+}
+
+// Puts a piece on the page, its settings in tables that nothing looks at.
+pub(crate) fn put_apart(rt: &impl Abort, page: &mut Page, settings: Settings<'_, u16>)
+    ensures { page.new.count ≡ page.old.count + 1 }
+{
+    let tables = &mut Tables {
+        widths: &mut [0; 96],
+        amounts: &mut [0; 96],
+    };
+    let piece = page.count();
+    assert_eq!(rt; page.put(&Depth, settings, tables), Ok(piece));
+}
+
 // A page opens at 1 to 24 columns, without pieces. Any other breadth is refused, and leaves the page as it was.
 #[test]
-fn pages_open_at_1_to_24_columns(rt: HostRuntime) -> Result<(), Fail> {
+fn pages_open_at_1_to_24_columns(rt: HostRuntime) {
     let mut page = Page::new();
     assert_eq!(rt; (page.breadth(), page.count()), (1, 0));
     for breadth in 1..=24 {
-        page.put(&Depth, &WIDTHS, &DEPTHS, &mut [0; 96], &mut [0; 96])?;
+        put_apart(&rt, &mut page, settings_of(&WIDTHS, &DEPTHS));
         for wrong in [0, 25, 255] {
             let before = (page.breadth(), 1);
-            assert_eq!(rt; page.open(wrong), Err(Fault::new(Refusal::Breadth)));
+            assert_eq!(rt; page.open(wrong), Err(Refusal::Breadth.into()));
             assert_eq!(rt; (page.breadth(), page.count()), before);
         }
         assert_eq!(rt; page.open(breadth), Ok(()));
         assert_eq!(rt; (page.breadth(), page.count()), (breadth, 0));
     }
-    Ok(())
 }
 
 // The settings that are refused, and at which of them. The number of settings is tested first, then all widths, then all amounts.
@@ -88,7 +110,11 @@ fn settings_are_tested_in_order(rt: HostRuntime) {
     for (widths, amounts, refusal, place) in cases {
         let mut width_table = [77; 96];
         let mut amount_table = [7777; 96];
-        let found = page.put(&Depth, widths, amounts, &mut width_table, &mut amount_table);
+        let tables = &mut Tables {
+            widths: &mut width_table,
+            amounts: &mut amount_table,
+        };
+        let found = page.put(&Depth, Settings { widths, amounts }, tables);
         assert_eq!(rt; found, Err(Fault::at(refusal, place)));
         assert_eq!(rt; page.count(), 0);
         assert_eq!(rt; width_table, [77; 96]);
@@ -98,7 +124,7 @@ fn settings_are_tested_in_order(rt: HostRuntime) {
 
 // Tables of 95 places are refused before the settings are looked at, and a full page before the tables are.
 #[test]
-fn tables_are_tested_before_settings(rt: HostRuntime) -> Result<(), Fail> {
+fn tables_are_tested_before_settings(rt: HostRuntime) {
     let settings: [(&[u8], &[u16]); 4] = [
         (&[1], &[1]),
         (&[], &[]),
@@ -112,29 +138,26 @@ fn tables_are_tested_before_settings(rt: HostRuntime) -> Result<(), Fail> {
                 assert!(rt; wide <= 96 && deep <= 96);
                 let mut width_table = [77; 96];
                 let mut amount_table = [7777; 96];
-                let found = page.put(
-                    &Depth,
-                    widths,
-                    amounts,
-                    &mut width_table[0..wide],
-                    &mut amount_table[0..deep],
-                );
+                let tables = &mut Tables {
+                    widths: &mut width_table[..wide],
+                    amounts: &mut amount_table[..deep],
+                };
+                let found = page.put(&Depth, Settings { widths, amounts }, tables);
                 let refusal = if piece == 12 {
                     Refusal::PageFull
                 } else {
                     Refusal::Memory
                 };
-                assert_eq!(rt; found, Err(Fault::new(refusal)));
+                assert_eq!(rt; found, Err(refusal.into()));
                 assert_eq!(rt; page.count(), piece);
                 assert_eq!(rt; width_table, [77; 96]);
                 assert_eq!(rt; amount_table, [7777; 96]);
             }
         }
         if piece < 12 {
-            page.put(&Depth, &[24], &[1], &mut [0; 96], &mut [0; 96])?;
+            put_apart(&rt, &mut page, settings_of(&[24], &[1]));
         }
     }
-    Ok(())
 }
 
 // Twelve pieces, of 1 to 8 settings, get the numbers 0 to 11, and one more is refused.
@@ -142,39 +165,38 @@ fn tables_are_tested_before_settings(rt: HostRuntime) -> Result<(), Fail> {
 #[test]
 fn twelve_pieces_fill_a_page(rt: HostRuntime) {
     let mut page = Page::new();
-    let width_table = &mut [77; 97][..];
-    let amount_table = &mut [7777; 97][..];
+    let mut width_table = [77; 97];
+    let mut amount_table = [7777; 97];
+    let tables = &mut Tables {
+        widths: &mut width_table,
+        amounts: &mut amount_table,
+    };
     for piece in 0..=12u8 {
-        let settings = usize::from(piece % 8) + 1;
-        let widths = &WIDTHS[0..settings];
-        let amounts = &DEPTHS[0..settings];
+        let count = usize::from(piece % 8) + 1;
+        let settings = settings_of(&WIDTHS[..count], &DEPTHS[..count]);
         let answer = if piece < 12 {
             Ok(piece)
         } else {
-            Err(Fault::new(Refusal::PageFull))
+            Err(Refusal::PageFull.into())
         };
-        assert_eq!(rt;
-            page.put(&Depth, widths, amounts, width_table, amount_table),
-            answer
-        );
+        assert_eq!(rt; page.put(&Depth, settings, tables), answer);
         assert_eq!(rt; page.count(), 12.min(piece + 1));
     }
-    for place in 0..97usize {
+    for (place, (&width, &amount)) in width_table.iter().zip(&amount_table).enumerate() {
         let piece = place / 8;
         let setting = place % 8;
-        let (width, amount) = if piece < 12 && setting <= piece % 8 {
+        let due = if piece < 12 && setting <= piece % 8 {
             (WIDTHS[setting], DEPTHS[setting])
         } else {
             (77, 7777)
         };
-        assert_eq!(rt; width_table.get(place), Some(&width));
-        assert_eq!(rt; amount_table.get(place), Some(&amount));
+        assert_eq!(rt; (width, amount), due, "place {place}");
     }
 }
 
 // An amend looks for the piece first, then at the tables, then at the settings' number, widths and amounts. A refusal changes nothing.
 #[test]
-fn amends_are_refused_in_order(rt: HostRuntime) -> Result<(), Fail> {
+fn amends_are_refused_in_order(rt: HostRuntime) {
     // the pieces on the page, the piece to amend, and whether it is there
     let pages: [(u8, u8, bool); 9] = [
         (0, 0, false),
@@ -196,25 +218,22 @@ fn amends_are_refused_in_order(rt: HostRuntime) -> Result<(), Fail> {
     for (pieces, piece, there) in pages {
         let mut page = Page::new();
         for _ in 0..pieces {
-            page.put(&Depth, &[24], &[1], &mut [0; 96], &mut [0; 96])?;
+            put_apart(&rt, &mut page, settings_of(&[24], &[1]));
         }
         for (widths, amounts, refusal, place) in settings {
             for (wide, deep) in [(95, 96), (96, 95), (0, 0), (96, 96)] {
                 assert!(rt; wide <= 96 && deep <= 96);
                 let mut width_table = [77; 96];
                 let mut amount_table = [7777; 96];
-                let found = page.amend(
-                    &Depth,
-                    piece,
-                    widths,
-                    amounts,
-                    &mut width_table[0..wide],
-                    &mut amount_table[0..deep],
-                );
+                let tables = &mut Tables {
+                    widths: &mut width_table[..wide],
+                    amounts: &mut amount_table[..deep],
+                };
+                let found = page.amend(&Depth, piece, Settings { widths, amounts }, tables);
                 let fault = if !there {
-                    Fault::new(Refusal::NoSuchPiece)
+                    Refusal::NoSuchPiece.into()
                 } else if wide < 96 || deep < 96 {
-                    Fault::new(Refusal::Memory)
+                    Refusal::Memory.into()
                 } else {
                     Fault::at(refusal, place)
                 };
@@ -225,38 +244,38 @@ fn amends_are_refused_in_order(rt: HostRuntime) -> Result<(), Fail> {
             }
         }
     }
-    Ok(())
 }
 
 // Twelve pieces of 8 settings are amended to 1 to 8 others, which stand from place 8k on, and all other places stay.
 #[test]
 fn amends_change_their_places(rt: HostRuntime) -> Result<(), Fail> {
     let mut page = Page::new();
-    let width_table = &mut [77; 97][..];
-    let amount_table = &mut [7777; 97][..];
+    let mut width_table = [77; 97];
+    let mut amount_table = [7777; 97];
+    let tables = &mut Tables {
+        widths: &mut width_table,
+        amounts: &mut amount_table,
+    };
     for _ in 0..12 {
-        page.put(&Depth, &WIDTHS, &DEPTHS, width_table, amount_table)?;
+        page.put(&Depth, settings_of(&WIDTHS, &DEPTHS), tables)?;
     }
     for piece in 0..12u8 {
-        let settings = usize::from(piece % 8) + 1;
-        let widths = &OTHER_WIDTHS[0..settings];
-        let amounts = &OTHER_DEPTHS[0..settings];
-        let found = page.amend(&Depth, piece, widths, amounts, width_table, amount_table);
-        assert_eq!(rt; found, Ok(0));
+        let count = usize::from(piece % 8) + 1;
+        let settings = settings_of(&OTHER_WIDTHS[..count], &OTHER_DEPTHS[..count]);
+        assert_eq!(rt; page.amend(&Depth, piece, settings, tables), Ok(0));
         assert_eq!(rt; page.count(), 12);
     }
-    for place in 0..97usize {
+    for (place, (&width, &amount)) in width_table.iter().zip(&amount_table).enumerate() {
         let piece = place / 8;
         let setting = place % 8;
-        let (width, amount) = if piece >= 12 {
+        let due = if piece >= 12 {
             (77, 7777)
         } else if setting <= piece % 8 {
             (OTHER_WIDTHS[setting], OTHER_DEPTHS[setting])
         } else {
             (WIDTHS[setting], DEPTHS[setting])
         };
-        assert_eq!(rt; width_table.get(place), Some(&width));
-        assert_eq!(rt; amount_table.get(place), Some(&amount));
+        assert_eq!(rt; (width, amount), due, "place {place}");
     }
     Ok(())
 }
@@ -266,16 +285,19 @@ fn amends_change_their_places(rt: HostRuntime) -> Result<(), Fail> {
 #[test]
 fn pieces_are_lifted_and_put_again(rt: HostRuntime) -> Result<(), Fail> {
     let mut page = Page::new();
-    let widths = &mut [0; 96][..];
-    let depths = &mut [0; 96][..];
+    let tables = &mut Tables {
+        widths: &mut [0; 96],
+        amounts: &mut [0; 96],
+    };
     page.open(24)?;
-    let none = Err(Fault::new(Refusal::NoSuchPiece));
+    let none = Err(Refusal::NoSuchPiece.into());
     for last in 0..12 {
-        assert_eq!(rt; page.put(&Depth, &[1], &[9], widths, depths), Ok(last));
+        let other = settings_of(&[2], &[8]);
+        assert_eq!(rt; page.put(&Depth, settings_of(&[1], &[9]), tables), Ok(last));
         assert_eq!(rt; page.lift(), Ok(0));
-        assert_eq!(rt; page.amend(&Depth, last, &[2], &[8], widths, depths), none);
-        assert_eq!(rt; page.put(&Depth, &[3], &[7], widths, depths), Ok(last));
-        assert_eq!(rt; page.amend(&Depth, last, &[2], &[8], widths, depths), Ok(0));
+        assert_eq!(rt; page.amend(&Depth, last, other, tables), none);
+        assert_eq!(rt; page.put(&Depth, settings_of(&[3], &[7]), tables), Ok(last));
+        assert_eq!(rt; page.amend(&Depth, last, other, tables), Ok(0));
     }
     for left in (0..12).rev() {
         assert_eq!(rt; page.lift(), Ok(0));
@@ -291,10 +313,13 @@ fn pieces_are_lifted_and_put_again(rt: HostRuntime) -> Result<(), Fail> {
 fn the_measure_ranks_amounts(rt: HostRuntime) {
     let marked = MarkedDepth { marks: 1, depth: 1 };
     let deep = MarkedDepth { marks: 0, depth: 9 };
-    let mut table = [marked; 96];
+    let tables = &mut Tables {
+        widths: &mut [0; 96],
+        amounts: &mut [marked; 96],
+    };
     let mut page = Page::new();
-    let found = page.put(&Marked, &[1, 2], &[deep, marked], &mut [0; 96], &mut table);
+    let found = page.put(&Marked, settings_of(&[1, 2], &[deep, marked]), tables);
     assert_eq!(rt; found, Err(Fault::at(Refusal::Amount, 1)));
-    let found = page.put(&Marked, &[1, 2], &[marked, deep], &mut [0; 96], &mut table);
+    let found = page.put(&Marked, settings_of(&[1, 2], &[marked, deep]), tables);
     assert_eq!(rt; found, Ok(0));
 }

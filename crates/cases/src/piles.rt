@@ -80,14 +80,15 @@ fn over_lines_either_order_gives_the_same(rt: HostRuntime) {
         gap: 3,
     };
     for a in 0..=11u16 {
-        let cell = if a >= 1 && a <= 10 { Some(a) } else { None };
+        let cell = (1..=10).contains(&a).then_some(a);
         assert_eq!(rt; ceiling_on_top.cell(a), cell);
         assert_eq!(rt; gutter_on_top.cell(a), cell);
         for b in 0..=11u16 {
-            let above = if a + b <= 7 { Some(a + 3 + b) } else { None };
+            let above = (a + b <= 7).then_some(a + 3 + b);
             assert_eq!(rt; ceiling_on_top.above(a, b), above);
             assert_eq!(rt; gutter_on_top.above(a, b), above);
-            let beside = if a.max(b) <= 10 { Some(a.max(b)) } else { None };
+            let deeper = a.max(b);
+            let beside = (deeper <= 10).then_some(deeper);
             assert_eq!(rt; ceiling_on_top.beside(a, b), beside);
             assert_eq!(rt; gutter_on_top.beside(a, b), beside);
         }

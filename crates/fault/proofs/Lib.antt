@@ -1,1 +1,2 @@
 pub mod Overwrite
+pub mod Filled

@@ -8,6 +8,10 @@ use Rattle.fault.specs.Faults.{fault}
 abbrev pub overwrite : {A : Type 0} → ℕ → List A → List A → List A
 overwrite at xs o = take at o ++ (xs ++ drop (at + length xs) o)
 
+-- what is answered where so many places are wanted in memory of a length, from place `at` on
+abbrev pub room_wanted : ℕ → ℕ → ℕ → Result (Unit {0}) Fault
+room_wanted size at count = cond (nat_le (at + count) size) (Ok tt) (Err (fault Memory))
+
 -- a number in decimal behind a label
 abbrev pub labelled : List ℕ → ℕ → List ℕ
 labelled label n = label ++ decimal n

@@ -1,6 +1,6 @@
 // Elements written over a part of lent memory.
 ghost use Rattle.std.specs.Prelude.{◌≡◌, ◌+◌, ◌≤◌, length, nat_le};
-ghost use Rattle.fault.specs.Written.{overwrite, Written};
+ghost use Rattle.fault.specs.Written.{overwrite, room_wanted, Written};
 
 use crate::refusal::{Fault, Refusal};
 
@@ -9,6 +9,17 @@ pub fn has_room<T>(memory: &[T], at: usize, count: usize) -> bool
     ensures { result ≡ nat_le (at + count) (length memory.now) }
 {
     at <= memory.len() && count <= memory.len() - at
+}
+
+// Refuses, for want of memory, where `count` places do not lie in it from place `at` on.
+pub fn want_room<T>(memory: &[T], at: usize, count: usize) -> Result<(), Fault>
+    ensures { result ≡ room_wanted (length memory.now) at count }
+{
+    if has_room(memory, at, count) {
+        Ok(())
+    } else {
+        Err(Refusal::Memory.into())
+    }
 }
 
 // Lays the elements over `out` from place `at` on.
@@ -24,9 +35,7 @@ pub(crate) fn lay_over<T: Copy>(items: &[T], out: &mut [T], at: usize)
 pub fn write_over<T: Copy>(items: &[T], out: &mut [T], at: usize) -> Result<usize, Fault>
     ensures { Written (length items.now) items.now out.old at out.new result }
 {
-    if !has_room(out, at, items.len()) {
-        return Err(Fault::new(Refusal::Memory));
-    }
+    want_room(out, at, items.len())?;
     lay_over(items, out, at);
     Ok(at + items.len())
 }

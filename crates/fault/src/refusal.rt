@@ -25,7 +25,7 @@ pub enum Refusal {
     Unfinished,
     // no layout fits and has an amount
     NoLayout,
-    // a place holds a code that no rule makes, or entries are those of no layout
+    // a place holds a code that no rule makes, a part of a code does not fit, or entries are those of no layout
     SpoiledCode,
     // the text so far begins no item
     WrongSign,

@@ -1,30 +1,35 @@
--- Entries that agree so far, and one more.
-use Rattle.std.proofs.Common.{◌≡◌, ℕ, ◌+◌, ◌<◌, ◌≤◌, List, length, get_or, Some, inl, inr, arith, below_more}
-use Rattle.std.specs.List.{slice_get}
-use Rattle.std.proofs.lemmas.Option.{slice_get-get_or, slice_get_past}
-use Rattle.std.proofs.lemmas.Bool.{cases_lt}
+-- Entries compared pair by pair.
+use Rattle.std.proofs.Common.{◌≡◌, ℕ, ◌<◌, Bool, true, false, List, length, get_or, MatchBool, Decides, Some, refl, subst, arith}
+use Rattle.std.specs.List.{zip, AllWithin, HoldsAt, slice_get}
+use Rattle.std.proofs.lemmas.Option.{slice_get-get_or, slice_get_within, get_or_from_slice_get}
+use Rattle.std.proofs.lemmas.Slice.Zip.{length-zip, get_or-zip}
 use Rattle.layout.specs.declared.entry.Entry.{Entry}
-use Rattle.layout.specs.Entries.{Agree, Alike}
+use Rattle.layout.specs.Entries.{cell_entry, Agree, Alike}
 
--- the entries below n agree
-abbrev pub AgreeTo : List Entry → List Entry → ℕ → Type 0
-AgreeTo xs ys n = (j : ℕ) → j < n → (x y : Entry) → slice_get xs j ≡ Some x → slice_get ys j ≡ Some y → Agree x y
+-- two entries that agree, and two that do not
+abbrev pub Same : Entry × Entry → Type 0
+Same p = Agree p.0 p.1
 
-module _ (xs ys : List Entry) (same : length xs ≡ length ys) (d : Entry) (i : ℕ) (within : i < length xs) where
-  left_is : (x : Entry) → slice_get xs i ≡ Some x → get_or xs i d ≡ x
-  left_is x e = let k = slice_get-get_or xs i d within in cc
+abbrev pub Differ : Entry × Entry → Type 0
+Differ p = Agree p.0 p.1 → ⊥
 
-  right_is : (y : Entry) → slice_get ys i ≡ Some y → get_or ys i d ≡ y
-  right_is y e = let k = slice_get-get_or ys i d (omega arith) in cc
-
-  pub agree_more : AgreeTo xs ys i → Agree (get_or xs i d) (get_or ys i d) → AgreeTo xs ys (i + 1)
-  agree_more so_far here = below_more _ _ so_far (λ x y e f. let l = left_is x e in let r = right_is y f in let k = here.0 in let p = here.1 in (cc, cc))
-
-  pub not_alike : (Agree (get_or xs i d) (get_or ys i d) → ⊥) → Alike xs ys → ⊥
-  not_alike differ a = differ (a.agree i _ _ (slice_get-get_or xs i d within) (slice_get-get_or ys i d (omega arith)))
-
-pub all_alike : (xs ys : List Entry) (n : ℕ) → length xs ≡ length ys → length xs ≤ n → AgreeTo xs ys n → Alike xs ys
-all_alike xs ys n same all so_far = record { one_length = same; agree = λ i x y e f. so_far i (inside i x e) x y e f }
+-- of two lists of one length, either all pairs agree or one does not
+pub alike_from_pairs : (xs ys : List Entry) (r : Bool) → length xs ≡ length ys → MatchBool r (AllWithin Same (zip xs ys) 0 (length (zip xs ys))) ((k : ℕ) × (k < length (zip xs ys)) × HoldsAt Differ (zip xs ys) k) → Decides r (Alike xs ys)
+alike_from_pairs xs ys true same all = (λ _. record { one_length = same; agree = agree }, λ _. refl)
   where
-    inside : (i : ℕ) (x : Entry) → slice_get xs i ≡ Some x → i < n
-    inside i x e = elim (cases_lt i (length xs)) [ inl lt ↦ omega arith | inr past ↦ let k = slice_get_past xs i past in let z : ◌≡◌ {A = ℕ} 0 1 = cc in absurd (omega arith) ]
+    agree : (i : ℕ) (x y : Entry) → slice_get xs i ≡ Some x → slice_get ys i ≡ Some y → Agree x y
+    agree i x y e f =
+        let left = get_or_from_slice_get xs i x x e in
+        let right = get_or_from_slice_get ys i y y f in
+        let pair = get_or-zip xs ys i (x, y) (slice_get_within xs i x e) (slice_get_within ys i y f) in
+        let both : Same (get_or (zip xs ys) i (x, y)) = all i (x, y) (omega arith) (omega (arith, length-zip xs ys, slice_get_within xs i x e)) in
+        let here : Same (get_or xs i x, get_or ys i y) = subst Same pair both in
+        (cc, cc)
+alike_from_pairs xs ys false same (k, within, differ) = (λ e. absurd (grind arith), λ a. none a)
+  where
+    none : Alike xs ys → false ≡ true
+    none a =
+        let d = cell_entry 0 0 in
+        let inside : k < length xs = omega (arith, length-zip xs ys) in
+        let pair = get_or-zip xs ys k (d, d) inside (omega arith) in
+        absurd (subst Differ pair (differ (d, d)) (a.agree k _ _ (slice_get-get_or xs k d inside) (slice_get-get_or ys k d (omega arith))))

@@ -1,13 +1,13 @@
 -- The text of a layout, written from its end back.
-use Rattle.std.proofs.Common.{◌≡◌, ℕ, ◌+◌, ◌-◌, ◌*◌, ◌<◌, ◌≤◌, List, [], ◌∷◌, ◌++◌, length, get_or, take, set, Some, None, sym, refl, ap, ◌∙◌, subst, arith}
+use Rattle.std.proofs.Common.{◌≡◌, ℕ, ◌+◌, ◌-◌, ◌*◌, ◌<◌, ◌≤◌, List, [], ◌∷◌, ◌++◌, length, get_or, take, set, sym, refl, ap, ◌∙◌, subst, arith}
 use Rattle.std.proofs.lemmas.List.{length-append, length-set, length-take-le, take_at, take_more, take-take, same_from_push}
 use Rattle.fault.specs.Written.{overwrite}
 use Rattle.fault.proofs.Overwrite.{overwrite_one, overwrite_before, length-overwrite}
 use Rattle.layout.specs.declared.entry.Cut.{Cut}
-use Rattle.layout.specs.declared.entry.Cut.TheVariants as cuts
+use Rattle.layout.specs.declared.entry.Kind.TheVariants as kinds
 use Rattle.layout.specs.declared.entry.Entry.{Entry}
 use Rattle.layout.specs.Layouts.{Layout, cell, cut}
-use Rattle.layout.specs.Entries.{cut_of, kind_of, cell_entry, entries}
+use Rattle.layout.specs.Entries.{cell_entry, entries}
 use Rattle.layout.specs.Texts.{opening, closing, plan_text}
 use Rattle.layout.specs.Readings.{CellEntry, Ending, Room, WroteOf, Wrote}
 use Rattle.layout.proofs.Endings.{kind, piece, setting, entry_count, some_entry}
@@ -16,11 +16,6 @@ use Rattle.layout.proofs.Read.{last_cell, last_parts}
 pub text_length : (x : Layout) → length (plan_text x) ≡ 2 * length (entries x)
 text_length (cell k i) = refl
 text_length (cut c x y) = omega (arith, entry_count c x y, text_length x, text_length y, length-append (plan_text x) (plan_text y ++ (closing c ∷ [])), length-append (plan_text y) (closing c ∷ []))
-
--- a kind that is a cut
-cut_kind : (c : Cut) → cut_of (kind_of c) ≡ Some c
-cut_kind cuts.Above = refl
-cut_kind cuts.Beside = refl
 
 -- the parts of a cut, and where the entries of each end
 pub record Parts (es : List Entry) (n : ℕ) (front : List Entry) (x : Layout) (c : Cut) : Type 0 where
@@ -42,8 +37,8 @@ module _ (es : List Entry) (n : ℕ) (within : n ≤ length es) (front : List En
         ap (λ k. take k es) m ∙ take_more es (n - 1) d (omega (arith, count))
 
     -- the last entry is a cell
-    pub alone : None ≡ cut_of (get_or es (n - 1) d).kind → CellEntry (get_or es (n - 1) d) × (x ≡ cell (get_or es (n - 1) d).piece (get_or es (n - 1) d).setting)
-    alone none = by x h
+    pub alone : (get_or es (n - 1) d).kind ≡ kinds.Cell → CellEntry (get_or es (n - 1) d) × (x ≡ cell (get_or es (n - 1) d).piece (get_or es (n - 1) d).setting)
+    alone cell_kind = by x h
       where
         e : Entry
         e = get_or es (n - 1) d
@@ -54,21 +49,19 @@ module _ (es : List Entry) (n : ℕ) (within : n ≤ length es) (front : List En
             (last_cell (take n es) (take (n - 1) es) _ last_is front k i g, (λ j. cell (ap piece last j) (ap setting last j)))
         by (cut c y z) g =
             let last = ap kind (last_parts (take n es) (take (n - 1) es) _ last_is front c y z g).1 in
-            let s : None ≡ Some c = none ∙ ap cut_of (sym last) ∙ cut_kind c in
-            absurd (let z : ◌≡◌ {A = ℕ} 0 1 = cc in omega arith)
+            cc
 
     -- the last entry is a cut
-    pub parts : (c : Cut) → Some c ≡ cut_of (get_or es (n - 1) d).kind → Parts es n front x c
-    parts c some = by x h
+    pub parts : (c : Cut) → (get_or es (n - 1) d).kind ≡ kinds.Cut c → Parts es n front x c
+    parts c cut_kind = by x h
       where
         by : (y : Layout) → Ending (take n es) front y → Parts es n front y c
         by (cell k i) g =
             let last = ap kind (same_from_push front (take (n - 1) es) (cell_entry k i) (get_or es (n - 1) d) (g.spelt ∙ last_is)).1 in
-            let s : Some c ≡ None = some ∙ ap cut_of (sym last) in
-            absurd (let z : ◌≡◌ {A = ℕ} 0 1 = cc in omega arith)
+            cc
         by (cut b y z) g =
             let p = last_parts (take n es) (take (n - 1) es) _ last_is front b y z g in
-            let s : Some c ≡ Some b = some ∙ ap cut_of (sym (ap kind p.1)) ∙ cut_kind b in
+            let last = ap kind p.1 in
             let same : b ≡ c = cc in
             let short : length (front ++ entries y) ≤ n - 1 = omega (arith, ap length p.0, length-append (front ++ entries y) (entries z), length-take-le (n - 1) es (omega arith)) in
             let front_is : front ++ entries y ≡ take (length (front ++ entries y)) es =
@@ -80,6 +73,17 @@ module _ (es : List Entry) (n : ℕ) (within : n ≤ length es) (front : List En
               right_ending = record { spelt = p.0; lettered = g.lettered.1 };
               left_ending = record { spelt = front_is; lettered = g.lettered.0 };
             }
+
+-- the same where there is room
+module _ {es : List Entry} {n place size : ℕ} (room : Room es n place size) where
+  pub room_count : length room.front + length (entries room.layout) ≡ n
+  room_count = count es n room.within room.front room.layout room.ending
+
+  pub room_cell : (d : Entry) → (get_or es (n - 1) d).kind ≡ kinds.Cell → CellEntry (get_or es (n - 1) d)
+  room_cell d is = (alone es n room.within room.front room.layout room.ending d is).0
+
+  pub room_parts : (d : Entry) (c : Cut) → (get_or es (n - 1) d).kind ≡ kinds.Cut c → Parts es n room.front room.layout c
+  room_parts = parts es n room.within room.front room.layout room.ending
 
 -- a letter and a digit
 pub cell_wrote : (k i end : ℕ) (o : List ℕ) → 1 ≤ end → end < length o → set (set o end (48 + i)) (end - 1) (97 + k) ≡ overwrite (end - 1) (plan_text (cell k i)) o
@@ -109,10 +113,10 @@ cut_wrote c x y o o₁ o₂ end middle start ye xe some h e₁ e₂ =
     ∙ overwrite_before (start - 1) (opening c ∷ []) (plan_text x ++ (plan_text y ++ (closing c ∷ []))) o (omega arith)
 
 -- a cell is done
-pub cell_done : (es : List Entry) (n : ℕ) (within : n ≤ length es) (d : Entry) (place : ℕ) (o : List ℕ) → None ≡ cut_of (get_or es (n - 1) d).kind → 2 ≤ place → place ≤ length o → (front : List Entry) (x : Layout) → Ending (take n es) front x →
+pub cell_done : (es : List Entry) (n : ℕ) (within : n ≤ length es) (d : Entry) (place : ℕ) (o : List ℕ) → (get_or es (n - 1) d).kind ≡ kinds.Cell → 2 ≤ place → place ≤ length o → (front : List Entry) (x : Layout) → Ending (take n es) front x →
     WroteOf front x o place (set (set o (place - 1) (48 + (get_or es (n - 1) d).setting)) (place - 1 - 1) (97 + (get_or es (n - 1) d).piece)) (n - 1) (place - 1 - 1)
-cell_done es n within d place o none some h front x g =
-    let is = (alone es n within front x g d none).1 in
+cell_done es n within d place o cell_kind some h front x g =
+    let is = (alone es n within front x g d cell_kind).1 in
     let one : length (entries x) ≡ 1 = ap (λ y. length (entries y)) is in
     record {
       entry_is = omega (arith, count es n within front x g);
@@ -120,7 +124,7 @@ cell_done es n within d place o none some h front x g =
       memory = cell_wrote _ _ (place - 1) o (omega arith) (omega arith) ∙ ap (λ y. overwrite (place - 1 - 1) (plan_text y) o) (sym is);
     }
 
-module _ (es : List Entry) (n place size : ℕ) (room : Room es n place size) (c : Cut) (p : Parts es n room.front room.layout c) where
+module _ {es : List Entry} {n place size : ℕ} (room : Room es n place size) {c : Cut} (p : Parts es n room.front room.layout c) where
   size_is : length (entries room.layout) ≡ length (entries p.left) + length (entries p.right) + 1
   size_is = ap (λ y. length (entries y)) p.is ∙ entry_count c p.left p.right
 
@@ -133,7 +137,7 @@ module _ (es : List Entry) (n place size : ℕ) (room : Room es n place size) (c
       let inside = room.inside in
       record { front = room.front ++ entries p.left; layout = p.right; ending = p.right_ending; within = omega arith; fits = omega arith; inside = omega arith }
 
-  module _ (before after : List ℕ) (entry start : ℕ) (w : Wrote es before (n - 1) (place - 1) after entry start) where
+  module _ {before after : List ℕ} {entry start : ℕ} (w : Wrote es before (n - 1) (place - 1) after entry start) where
     right_wrote : WroteOf (room.front ++ entries p.left) p.right before (place - 1) after entry start
     right_wrote = w (room.front ++ entries p.left) p.right p.right_ending
 
@@ -147,18 +151,18 @@ module _ (es : List Entry) (n place size : ℕ) (room : Room es n place size) (c
         let fits = room.fits in
         let inside = room.inside in
         let l = length-append room.front (entries p.left) in
-        record { front = room.front; layout = p.left; ending = subst (λ m. Ending (take m es) room.front p.left) (sym e) p.left_ending; within = omega (arith, count es n within room.front room.layout room.ending); fits = omega arith; inside = omega arith }
+        record { front = room.front; layout = p.left; ending = subst (λ m. Ending (take m es) room.front p.left) (sym e) p.left_ending; within = omega (arith, room_count room); fits = omega arith; inside = omega arith }
 
     pub falls : (entry < n)
     falls =
         let k = size_is in
         let e = right_wrote.entry_is in
         let l = length-append room.front (entries p.left) in
-        omega (arith, count es n room.within room.front room.layout room.ending)
+        omega (arith, room_count room)
 
     -- and for the opening sign
-    pub first_place : (after' : List ℕ) (entry' start' : ℕ) → Wrote es after entry start after' entry' start' → (1 ≤ start') × (start' < size)
-    first_place after' entry' start' w' =
+    pub first_place : {after' : List ℕ} {entry' start' : ℕ} → Wrote es after entry start after' entry' start' → (1 ≤ start') × (start' < size)
+    first_place w' =
         let k = size_is in
         let s = right_wrote.start_is in
         let s' = (w' room.front p.left (subst (λ m. Ending (take m es) room.front p.left) (sym right_wrote.entry_is) p.left_ending)).start_is in

@@ -1,36 +1,25 @@
 -- The cells of a layout, counted by piece.
-use Rattle.std.proofs.Common.{◌≡◌, ℕ, zero, suc, ◌+◌, ◌*◌, ◌<◌, ◌≤◌, cond, List, [], ◌∷◌, ◌++◌, length, get_or, take, drop, refl, ap, ◌∙◌, inl, inr, arith}
-use Rattle.std.proofs.lemmas.List.{take_more, take-append-drop}
+use Rattle.std.proofs.Common.{◌≡◌, ℕ, zero, suc, ◌+◌, ◌*◌, ◌<◌, ◌≤◌, cond, [], ◌∷◌, ◌++◌, length, refl, ap, inl, inr, arith}
+use Rattle.std.proofs.lemmas.List.Sums.{sum_by-append}
 use Rattle.std.proofs.lemmas.Bool.{cases_eq, eq-eqb, ne_eqb}
 use Rattle.std.proofs.lemmas.Bool.Decides.{nat_tests}
 use Rattle.layout.specs.declared.entry.Cut.{Cut}
-use Rattle.layout.specs.declared.entry.Cut.TheVariants.{Above, Beside}
 use Rattle.layout.specs.declared.entry.Entry.{Entry}
 use Rattle.layout.specs.Layouts.{Layout, cell, cut, cells}
-use Rattle.layout.specs.Entries.{cut_entry, kind_of, entries}
+use Rattle.layout.specs.Entries.{cut_entry, entries}
 use Rattle.layout.specs.Texts.{Lettered, Tellable}
 use Rattle.layout.specs.Readings.{in_cell, cell_count}
 use Rattle.layout.proofs.Endings.{entry_count}
 
-pub count_append : (k : ℕ) (xs ys : List Entry) → cell_count k (xs ++ ys) ≡ cell_count k xs + cell_count k ys
-count_append k [] ys = omega arith
-count_append k (x ∷ xs) ys = omega (arith, count_append k xs ys)
-
-no_cell : (k : ℕ) (c : Cut) → in_cell k (kind_of c) 0 ≡ 0
-no_cell k Above = refl
-no_cell k Beside = refl
+-- what an entry adds to the cells of a piece
+abbrev pub adds : ℕ → Entry → ℕ
+adds k e = in_cell k e.kind e.piece
 
 -- the entries of a layout have its cells
 pub count_entries : (k : ℕ) (x : Layout) → cell_count k (entries x) ≡ cells k x
 count_entries k (cell j i) = omega arith
 count_entries k (cut c x y) =
-    omega (arith, count_append k (entries x) (entries y ++ (cut_entry c ∷ [])), count_append k (entries y) (cut_entry c ∷ []), count_entries k x, count_entries k y, no_cell k c)
-
-pub count_more : (k : ℕ) (xs : List Entry) (i : ℕ) (d : Entry) → i < length xs → cell_count k (take (i + 1) xs) ≡ cell_count k (take i xs) + in_cell k (get_or xs i d).kind (get_or xs i d).piece
-count_more k xs i d h = ap (cell_count k) (take_more xs i d h) ∙ count_append k (take i xs) (get_or xs i d ∷ []) ∙ omega arith
-
-pub count_some : (k : ℕ) (xs : List Entry) (i : ℕ) → cell_count k (take i xs) ≤ cell_count k xs
-count_some k xs i = omega (arith, count_append k (take i xs) (drop i xs), ap (cell_count k) (take-append-drop i xs))
+    omega (arith, sum_by-append (adds k) (entries x) (entries y ++ (cut_entry c ∷ [])), sum_by-append (adds k) (entries y) (cut_entry c ∷ []), count_entries k x, count_entries k y)
 
 -- the cells of all pieces below n
 abbrev cells_below : ℕ → Layout → ℕ

@@ -1,6 +1,7 @@
 -- The pieces of cells, collected in a set.
 use Rattle.std.proofs.Common.{◌≡◌, ℕ, ◌+◌, ◌^◌, ◌<◌, ◌≤◌, true, false, cond, eqb, ◌⊎◌, List, [], ◌++◌, length, is_some, Some, None, Decides, Option, sym, refl, ap, ◌∙◌, inl, inr, arith}
 use Rattle.std.proofs.lemmas.List.{nil_from_length}
+use Rattle.std.proofs.lemmas.Nat.Bits.{bit_at_above}
 use Rattle.std.proofs.lemmas.Bool.{eqb-true, eqb-false, eq-eqb, ne_eqb, lt-ltb, cases_lt}
 use Rattle.std.proofs.lemmas.Bool.Decides.{nat_tests}
 use Rattle.layout.specs.declared.entry.Kind.{Kind}
@@ -11,7 +12,7 @@ use Rattle.layout.specs.Entries.{entries}
 use Rattle.layout.specs.Sets.{bit, with_piece}
 use Rattle.layout.specs.Texts.{Spells}
 use Rattle.layout.specs.Readings.{Ending, Begins, in_cell, cell_count, Collected}
-use Rattle.layout.proofs.Bit.{bit_small, bit_high, bit_with}
+use Rattle.layout.proofs.Bit.{bit_small, bit_with}
 use Rattle.layout.proofs.Endings.{one_ending}
 use Rattle.layout.proofs.Cells.{count_entries, no_high}
 
@@ -27,7 +28,7 @@ module _ (set piece : ℕ) (kind : Kind) (is : kind ≡ Cell) where
       one = eqb-true _ _ there
 
       within : piece < 16
-      within = elim (cases_lt piece 16) [ inl lt ↦ lt | inr high ↦ absurd (omega (arith, bit_high piece 16 set high small, one)) ]
+      within = elim (cases_lt piece 16) [ inl lt ↦ lt | inr high ↦ absurd (omega (arith, bit_at_above set 16 piece small high, one)) ]
 
       two : 2 ≤ bit piece set + in_cell piece kind piece
       two = let e : in_cell piece kind piece ≡ 1 = here piece ∙ rw (eq-eqb piece piece refl) in omega (arith, one)
@@ -48,15 +49,12 @@ module _ (set piece : ℕ) (kind : Kind) (is : kind ≡ Cell) where
           let n : in_cell k kind piece ≡ 0 = here k ∙ rw (ne_eqb k piece (λ e. omega arith)) in
           ap (bit k) w ∙ omega arith
 
--- a layout that was found at the beginning, with no piece twice
-spells : (es : List Entry) (start set : ℕ) → Begins es (Some start) → start ≡ 0 → Collected (λ k. cell_count k es) (Some set) → (x : Layout) × Spells es x
-spells es start set (front, x, h, at) zero pieces = (x, record { spelt = whole; tellable = record { lettered = h.lettered; different = once } })
+-- a layout that begins at the first entry, with no piece twice
+spells : (es : List Entry) (set : ℕ) → Begins es (Some 0) → Collected (λ k. cell_count k es) (Some set) → (x : Layout) × Spells es x
+spells es set (front, x, h, at) pieces = (x, record { spelt = whole; tellable = record { lettered = h.lettered; different = once } })
   where
-    empty : front ≡ []
-    empty = nil_from_length front (omega arith)
-
     whole : entries x ≡ es
-    whole = ap (λ f. f ++ entries x) (sym empty) ∙ h.spelt
+    whole = ap (λ f. f ++ entries x) (sym (nil_from_length front (omega arith))) ∙ h.spelt
 
     once : (k : ℕ) → cells k x ≤ 1
     once k =
@@ -67,14 +65,15 @@ spells es start set (front, x, h, at) zero pieces = (x, record { spelt = whole; 
 pub spelt_at : (es : List Entry) (x : Layout) → Spells es x → Ending es [] x
 spelt_at es x s = record { spelt = s.spelt; lettered = s.tellable.lettered }
 
-pub starts_first : (es : List Entry) (x : Layout) (start : ℕ) → Spells es x → Begins es (Some start) → start ≡ 0
-starts_first es x start s (front, y, h, at) = at ∙ ap length (one_ending front [] y x (h.spelt ∙ sym s.spelt)).1
+pub starts_first : (es : List Entry) (x : Layout) (o : Option ℕ) → Spells es x → Begins es o → o ≡ Some 0
+starts_first es x None s none = absurd (none [] x (spelt_at es x s))
+starts_first es x (Some start) s (front, y, h, at) = ap Some (at ∙ ap length (one_ending front [] y x (h.spelt ∙ sym s.spelt)).1)
 
 -- and have no piece twice
 none_twice : (es : List Entry) (x : Layout) → Spells es x → Collected (λ k. cell_count k es) None → ⊥
 none_twice es x s (k, low, two) = omega (arith, ap (cell_count k) s.spelt, count_entries k x, s.tellable.different k)
 
 -- so they are a layout's exactly if the set was made
-pub found : (es : List Entry) (start : ℕ) (o : Option ℕ) → Begins es (Some start) → start ≡ 0 → Collected (λ k. cell_count k es) o → Decides (is_some o) ((x : Layout) × Spells es x)
-found es start (Some set) b zero c = (λ _. spells es start set b zero c, λ _. refl)
-found es start None b zero c = (λ e. absurd (grind arith), λ s. absurd (none_twice es s.0 s.1 c))
+pub found : (es : List Entry) (o : Option ℕ) → Begins es (Some 0) → Collected (λ k. cell_count k es) o → Decides (is_some o) ((x : Layout) × Spells es x)
+found es (Some set) b c = (λ _. spells es set b c, λ _. refl)
+found es None b c = (λ e. absurd (grind arith), λ s. absurd (none_twice es s.0 s.1 c))

@@ -1,13 +1,12 @@
 -- What a list of entries ends with is one layout at most, so entries determine their layout.
-use Rattle.std.proofs.Common.{◌≡◌, ℕ, ◌+◌, ◌<◌, List, [], ◌∷◌, ◌++◌, length, sym, refl, ap, ◌∙◌, arith}
+use Rattle.std.proofs.Common.{◌≡◌, ℕ, ◌+◌, ◌<◌, List, [], ◌∷◌, ◌++◌, length, sym, ap, ◌∙◌, arith}
 use Rattle.std.proofs.lemmas.List.{append_assoc, length-append, same_from_push}
 use Rattle.layout.specs.declared.entry.Cut.{Cut}
-use Rattle.layout.specs.declared.entry.Cut.TheVariants.{Above, Beside}
 use Rattle.layout.specs.declared.entry.Kind.{Kind}
-use Rattle.layout.specs.declared.entry.Kind.TheVariants.{Cell}
+use Rattle.layout.specs.declared.entry.Kind.TheVariants as kinds
 use Rattle.layout.specs.declared.entry.Entry.{Entry}
 use Rattle.layout.specs.Layouts.{Layout, cell, cut}
-use Rattle.layout.specs.Entries.{kind_of, cell_entry, cut_entry, entries}
+use Rattle.layout.specs.Entries.{cell_entry, cut_entry, entries}
 
 -- a cut's own entry is the last
 pub cut_last : (front : List Entry) (c : Cut) (x y : Layout) → front ++ entries (cut c x y) ≡ ((front ++ entries x) ++ entries y) ++ (cut_entry c ∷ [])
@@ -31,15 +30,8 @@ abbrev pub setting : Entry → ℕ
 setting x = x.setting
 
 -- no kind is a cell and a cut
-pub cell_no_cut : (c : Cut) → Cell ≡ kind_of c → ⊥
-cell_no_cut Above e = let z : ◌≡◌ {A = ℕ} 0 1 = cc in omega arith
-cell_no_cut Beside e = let z : ◌≡◌ {A = ℕ} 0 1 = cc in omega arith
-
-same_cut : (c d : Cut) → kind_of c ≡ kind_of d → c ≡ d
-same_cut Above Above e = refl
-same_cut Beside Beside e = refl
-same_cut Above Beside e = cc
-same_cut Beside Above e = cc
+pub cell_no_cut : (c : Cut) → kinds.Cell ≡ kinds.Cut c → ⊥
+cell_no_cut c e = cc
 
 pub one_ending : (front front' : List Entry) (x y : Layout) → front ++ entries x ≡ front' ++ entries y → (x ≡ y) × (front ≡ front')
 one_ending front front' (cell k i) (cell j h) e =
@@ -53,7 +45,7 @@ one_ending front front' (cut c x w) (cut d y z) e =
     let p = same_from_push ((front ++ entries x) ++ entries w) ((front' ++ entries y) ++ entries z) (cut_entry c) (cut_entry d) (sym (cut_last front c x w) ∙ (e ∙ cut_last front' d y z)) in
     let right = one_ending (front ++ entries x) (front' ++ entries y) w z p.0 in
     let left = one_ending front front' x y right.1 in
-    let b = same_cut c d (ap kind p.1) in
+    let same_kind = ap kind p.1 in
     let l = left.0 in
     let r = right.0 in
     (cc, left.1)

@@ -1,5 +1,4 @@
 pub mod Bit
-pub mod Packed
 pub mod Agreeing
 pub mod Endings
 pub mod Read
@@ -7,3 +6,4 @@ pub mod Back
 pub mod Cells
 pub mod Collect
 pub mod Lined
+pub mod Gather

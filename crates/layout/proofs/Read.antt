@@ -1,13 +1,12 @@
 -- What a list of entries ends with, from its last entry and what stands before it.
-use Rattle.std.proofs.Common.{◌≡◌, ℕ, ◌+◌, ◌-◌, ◌<◌, List, [], ◌∷◌, ◌++◌, length, get_or, take, Some, None, Option, sym, refl, ap, ◌∙◌, subst, arith}
-use Rattle.std.proofs.lemmas.List.{length-append, take_at, take_all, take_more, same_from_push}
+use Rattle.std.proofs.Common.{◌≡◌, ℕ, List, [], ◌∷◌, ◌++◌, length, take, Some, None, Option, sym, refl, ap, ◌∙◌, subst, arith}
+use Rattle.std.proofs.lemmas.List.{length-append, take_at, same_from_push}
 use Rattle.layout.specs.declared.entry.Cut.{Cut}
-use Rattle.layout.specs.declared.entry.Cut.TheVariants as cuts
 use Rattle.layout.specs.declared.entry.Kind.{Kind}
-use Rattle.layout.specs.declared.entry.Kind.TheVariants.{Cell, Above, Beside}
+use Rattle.layout.specs.declared.entry.Kind.TheVariants as kinds
 use Rattle.layout.specs.declared.entry.Entry.{Entry}
 use Rattle.layout.specs.Layouts.{Layout, cell, cut}
-use Rattle.layout.specs.Entries.{kind_of, cell_entry, cut_entry, entries}
+use Rattle.layout.specs.Entries.{cell_entry, cut_entry, entries}
 use Rattle.layout.specs.Readings.{CellEntry, CutEntry, Ending, Begins}
 use Rattle.layout.proofs.Endings.{cut_last, some_entry, cell_no_cut, one_ending}
 
@@ -17,22 +16,13 @@ cell_is e p = (λ i. record { kind = sym p.is i; piece = e.piece; setting = e.se
 pub cut_is : (e : Entry) → CutEntry e → (c : Cut) × (cut_entry c ≡ e)
 cut_is e p = let k = by e.kind p.is in (k.0, (λ i. record { kind = k.1 i; piece = sym p.piece i; setting = sym p.setting i }))
   where
-    by : (k : Kind) → (k ≡ Cell → ⊥) → (c : Cut) × (kind_of c ≡ k)
-    by Cell none = absurd (none refl)
-    by Above none = (cuts.Above, refl)
-    by Beside none = (cuts.Beside, refl)
+    by : (k : Kind) → (k ≡ kinds.Cell → ⊥) → (c : Cut) × (kinds.Cut c ≡ k)
+    by kinds.Cell none = absurd (none refl)
+    by (kinds.Cut c) none = (c, refl)
 
--- the last entry, and those before it
-pub last_entry : (es : List Entry) (d : Entry) → 0 < length es → es ≡ take (length es - 1) es ++ (get_or es (length es - 1) d ∷ [])
-last_entry es d some =
-    let all : length es - 1 + 1 ≡ length es = omega arith in
-    sym (sym (take_more es (length es - 1) d (omega arith)) ∙ ap (λ n. take n es) all ∙ take_all (length es) es (omega arith))
-
+-- no entries end with none
 pub none_ends : (es : List Entry) → length es ≡ 0 → Begins es None
 none_ends es zero front x h = omega (arith, ap length h.spelt, length-append front (entries x), some_entry x)
-
-pub begins_within : (es : List Entry) (start : ℕ) → Begins es (Some start) → start < length es
-begins_within es start b = omega (arith, ap length b.2.spelt, length-append b.0 (entries b.1), some_entry b.1, b.3)
 
 module _ (es before : List Entry) (e : Entry) (is : es ≡ before ++ (e ∷ [])) where
   pub cell_begins : CellEntry e → Begins es (Some (length before))
@@ -58,19 +48,19 @@ module _ (es before : List Entry) (e : Entry) (is : es ≡ before ++ (e ∷ []))
   no_right p none front (cut c x y) h = none (front ++ entries x) y (record { spelt = (last_parts front c x y h).0; lettered = h.lettered.1 })
 
   -- a cut with a right part, and what is before that
-  pub with_right : CutEntry e → (middle : ℕ) (left : List Entry) → Begins before (Some middle) → left ≡ take middle before → (r : Option ℕ) → Begins left r → Begins es r
-  with_right p middle left (f, y, right, at) l = by
+  pub with_right : CutEntry e → (middle : ℕ) → Begins before (Some middle) → (r : Option ℕ) → Begins (take middle before) r → Begins es r
+  with_right p middle (f, y, right, at) = by
     where
-      left_is : left ≡ f
-      left_is = l ∙ ap (take middle) (sym right.spelt) ∙ take_at f (entries y) middle (sym at)
+      left_is : take middle before ≡ f
+      left_is = ap (take middle) (sym right.spelt) ∙ take_at f (entries y) middle (sym at)
 
-      no_left : Begins left None → Begins es None
+      no_left : Begins (take middle before) None → Begins es None
       no_left none front (cell k i) h = p.is (last_cell front k i h).is
       no_left none front (cut c x z) h =
           let same = one_ending f (front ++ entries x) y z (right.spelt ∙ sym (last_parts front c x z h).0) in
           none front x (record { spelt = sym same.1 ∙ sym left_is; lettered = h.lettered.0 })
 
-      by : (r : Option ℕ) → Begins left r → Begins es r
+      by : (r : Option ℕ) → Begins (take middle before) r → Begins es r
       by None none = no_left none
       by (Some start) (front, x, h, s) =
           let c = cut_is e p in

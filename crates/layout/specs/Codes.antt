@@ -1,7 +1,19 @@
 -- Codes as numbers: packed by adding their parts, and taken apart by quotients and remainders.
-use Rattle.std.specs.Prelude.{◌≡◌, ℕ, zero, suc, ◌+◌, ◌*◌, ◌/◌, ◌%◌, Bool, true, cond, ◌&&◌, Some, None, Option, nat_lt}
+use Rattle.std.specs.Prelude.{◌≡◌, ℕ, zero, suc, ◌+◌, ◌*◌, ◌/◌, ◌%◌, Bool, true, cond, ◌&&◌, Some, None, Option, Ok, Err, Result, ok_or, nat_lt}
+use Rattle.fault.specs.declared.refusal.Refusal.TheVariants.{SpoiledCode}
+use Rattle.fault.specs.declared.refusal.Fault.{Fault}
+use Rattle.fault.specs.Faults.{fault}
 use Rattle.layout.specs.declared.code.Code.{Code}
 use Rattle.layout.specs.declared.code.Code.TheVariants.{Nothing, Cell, Above, Beside}
+use Rattle.layout.specs.declared.code.CodeKind.{CodeKind}
+use Rattle.layout.specs.declared.code.CodeKind.TheVariants as kinds
+
+-- the number of a kind in bits 0 and 1
+abbrev pub kind_bits : CodeKind → ℕ
+kind_bits kinds.Nothing = 0
+kind_bits kinds.Cell = 1
+kind_bits kinds.Above = 2
+kind_bits kinds.Beside = 3
 
 -- a code's kind
 abbrev pub code_kind : Code → ℕ
@@ -41,6 +53,14 @@ said (suc (suc (suc kind))) n = Beside (n / 4 % 4096) (n / 16384 % 32)
 -- the code of a number, if it is one
 abbrev pub taken_apart : ℕ → Option Code
 taken_apart n = cond (nat_lt n (kind_limit (n % 4))) (Some (said (n % 4) n)) None
+
+-- the number of a code in range; another is refused
+abbrev pub packed : Code → Result ℕ Fault
+packed c = cond (in_range c) (Ok (code_number c)) (Err (fault SpoiledCode))
+
+-- the code of a number; one that is no code is refused
+abbrev pub unpacked : ℕ → Result Code Fault
+unpacked n = ok_or (taken_apart n) (fault SpoiledCode)
 
 -- a code in range is taken apart as it was packed, and a number that is a code was packed from one in range
 pub record CodesRoundTrip : Type 0 where

@@ -4,31 +4,26 @@ use Rattle.std.specs.List.{slice_get}
 use Rattle.layout.specs.declared.entry.Cut.{Cut}
 use Rattle.layout.specs.declared.entry.Cut.TheVariants as cuts
 use Rattle.layout.specs.declared.entry.Kind.{Kind}
-use Rattle.layout.specs.declared.entry.Kind.TheVariants.{Cell, Above, Beside}
+use Rattle.layout.specs.declared.entry.Kind.TheVariants as kinds
 use Rattle.layout.specs.declared.entry.Entry.{Entry}
 use Rattle.layout.specs.Layouts.{Layout, cell, cut}
 
 -- the number by which users know a kind
 abbrev pub kind_number : Kind → ℕ
-kind_number Cell = 0
-kind_number Above = 1
-kind_number Beside = 2
+kind_number kinds.Cell = 0
+kind_number (kinds.Cut cuts.Above) = 1
+kind_number (kinds.Cut cuts.Beside) = 2
 
 -- the cut that a kind is, if it is one
 abbrev pub cut_of : Kind → Option Cut
-cut_of Cell = None
-cut_of Above = Some cuts.Above
-cut_of Beside = Some cuts.Beside
-
-abbrev pub kind_of : Cut → Kind
-kind_of cuts.Above = Above
-kind_of cuts.Beside = Beside
+cut_of kinds.Cell = None
+cut_of (kinds.Cut c) = Some c
 
 abbrev pub cell_entry : ℕ → ℕ → Entry
-cell_entry k i = record { kind = Cell; piece = k; setting = i }
+cell_entry k i = record { kind = kinds.Cell; piece = k; setting = i }
 
 abbrev pub cut_entry : Cut → Entry
-cut_entry c = record { kind = kind_of c; piece = 0; setting = 0 }
+cut_entry c = record { kind = kinds.Cut c; piece = 0; setting = 0 }
 
 -- one entry for each cell and each cut: left, right, cut
 abbrev pub entries : Layout → List Entry

@@ -1,6 +1,6 @@
 -- Examples of layouts, their entries and their lines, computed by the checker.
-use Rattle.std.specs.Prelude.{◌≡◌, ℕ, zero, suc, ◌<◌, [], ◌∷◌, Some, None, codes, refl}
-use Rattle.std.proofs.Common.{arith}
+use Rattle.std.specs.Prelude.{◌≡◌, ℕ, ◌<◌, [], ◌∷◌, Some, None, codes, refl}
+use Rattle.std.proofs.Common.{below_none, below_more}
 use Rattle.std.specs.Fmt.{digits}
 use Rattle.measure.specs.Settings.{Setting}
 use Rattle.measure.specs.Products.{depth, ceiling}
@@ -27,11 +27,12 @@ wide_width = refl
 wide_depth : amount depth sample wide ≡ Some 2
 wide_depth = refl
 
-once : (k : ℕ) → k < 3 → cells k wide ≡ 1
-once zero h = refl
-once (suc zero) h = refl
-once (suc (suc zero)) h = refl
-once (suc (suc (suc k))) h = absurd (omega arith)
+-- the piece is in one cell
+abbrev Once : ℕ → Type 0
+Once k = cells k wide ≡ 1
+
+once : (k : ℕ) → k < 3 → Once k
+once = below_more Once 2 (below_more Once 1 (below_more Once 0 (below_none Once) refl) refl) refl
 
 of_all_three : LayoutOf sample wide
 of_all_three = record { once = once; real = ((of 1 2, refl), ((of 2 1, refl), (of 3 1, refl))) }

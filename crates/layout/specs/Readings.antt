@@ -1,8 +1,8 @@
 -- Entries read from their end: what the check of a list of entries and the writing of its text go by.
-use Rattle.std.specs.Prelude.{◌≡◌, ℕ, ◌+◌, ◌*◌, ◌<◌, ◌≤◌, cond, List, [], ◌∷◌, ◌++◌, length, take, Some, None, Option, ◌==◌}
+use Rattle.std.specs.Prelude.{◌≡◌, ℕ, ◌+◌, ◌*◌, ◌<◌, ◌≤◌, cond, List, [], ◌++◌, length, sum_by, take, Some, None, Option, ◌==◌}
 use Rattle.fault.specs.Written.{overwrite}
 use Rattle.layout.specs.declared.entry.Kind.{Kind}
-use Rattle.layout.specs.declared.entry.Kind.TheVariants.{Cell, Above, Beside}
+use Rattle.layout.specs.declared.entry.Kind.TheVariants as kinds
 use Rattle.layout.specs.declared.entry.Entry.{Entry}
 use Rattle.layout.specs.Layouts.{Layout}
 use Rattle.layout.specs.Entries.{entries}
@@ -11,13 +11,13 @@ use Rattle.layout.specs.Texts.{Lettered, plan_text}
 
 -- the entry of a cell from a to l, in a setting 0 to 7
 pub record CellEntry (e : Entry) : Type 0 where
-  pub is : e.kind ≡ Cell
+  pub is : e.kind ≡ kinds.Cell
   pub piece : e.piece < 12
   pub setting : e.setting < 8
 
 -- the entry of a cut
 pub record CutEntry (e : Entry) : Type 0 where
-  pub is : e.kind ≡ Cell → ⊥
+  pub is : e.kind ≡ kinds.Cell → ⊥
   pub piece : e.piece ≡ 0
   pub setting : e.setting ≡ 0
 
@@ -33,14 +33,12 @@ Begins es None = (front : List Entry) (x : Layout) → Ending es front x → ⊥
 
 -- 1 where an entry is a cell of piece k, else 0
 abbrev pub in_cell : ℕ → Kind → ℕ → ℕ
-in_cell k Cell piece = cond (k == piece) 1 0
-in_cell k Above piece = 0
-in_cell k Beside piece = 0
+in_cell k kinds.Cell piece = cond (k == piece) 1 0
+in_cell k (kinds.Cut c) piece = 0
 
 -- how many entries are cells of piece k
 abbrev pub cell_count : ℕ → List Entry → ℕ
-cell_count k [] = 0
-cell_count k (e ∷ es) = in_cell k e.kind e.piece + cell_count k es
+cell_count k es = sum_by (λ e. in_cell k e.kind e.piece) es
 
 -- a set of the pieces that are counted once; nothing where one is counted twice. A set has bits for 16 pieces
 abbrev pub Collected : (ℕ → ℕ) → Option ℕ → Type 0

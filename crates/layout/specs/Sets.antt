@@ -1,10 +1,10 @@
 -- Sets of pieces as numbers: a set's number adds 2 ^ k for each piece k in it.
-use Rattle.std.specs.Prelude.{◌≡◌, ℕ, zero, suc, ◌+◌, ◌/◌, ◌%◌, ◌^◌, ◌≤◌, cond, ◌&&◌, List, [], ◌∷◌, ◌==◌, nat_lt}
+use Rattle.std.specs.Prelude.{◌≡◌, ℕ, ◌+◌, ◌^◌, ◌≤◌, cond, ◌&&◌, List, [], ◌∷◌, ◌==◌, nat_lt}
+use Rattle.std.specs.Int.{bit_at}
 
 -- 1 where piece k is in the set, else 0
 abbrev pub bit : ℕ → ℕ → ℕ
-bit zero s = s % 2
-bit (suc k) s = bit k (s / 2)
+bit k s = bit_at s k
 
 -- a set of 16 bits with piece k: 2 ^ k more, unless the piece is in it or has no bit
 abbrev pub with_piece : ℕ → ℕ → ℕ

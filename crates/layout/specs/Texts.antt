@@ -4,6 +4,8 @@ use Rattle.fault.specs.declared.refusal.Refusal.TheVariants.{Memory, SpoiledCode
 use Rattle.fault.specs.declared.refusal.Fault.{Fault}
 use Rattle.fault.specs.Faults.{fault}
 use Rattle.fault.specs.Written.{Written}
+use Rattle.fault.specs.WrittenBy.{ample, WrittenBy}
+use Rattle.fault.specs.declared.writer.Writer.{Writer}
 use Rattle.measure.specs.Filing.{Filing}
 use Rattle.layout.specs.declared.entry.Cut.{Cut}
 use Rattle.layout.specs.declared.entry.Cut.TheVariants.{Above, Beside}
@@ -55,3 +57,8 @@ none_text w = decimal w ++ codes " none"
 pub record LayoutLine {A : Type 0} (f : Filing A) (w : ℕ) (a : A) (es : List Entry) (before after : List ℕ) (r : Result ℕ Fault) : Type 0 where
   pub line : (x : Layout) → Spells es x → Written 80 (layout_text f w a x) before 0 after r
   pub refused : ((x : Layout) → Spells es x → ⊥) → (r ≡ Err (fault (cond (nat_le 80 (length before)) SpoiledCode Memory))) × (after ≡ before)
+
+-- the same of a writer, at its place
+pub record LayoutWrote {A : Type 0} (f : Filing A) (w : ℕ) (a : A) (es : List Entry) (before after : Writer) (r : Result (Unit {0}) Fault) : Type 0 where
+  pub line : (x : Layout) → Spells es x → WrittenBy 80 (layout_text f w a x) before after r
+  pub refused : ((x : Layout) → Spells es x → ⊥) → (r ≡ Err (fault (cond (ample 80 before) SpoiledCode Memory))) × (after ≡ before)

@@ -12,3 +12,12 @@ pub enum Code {
     // a cut into two parts, one beside the other
     Beside { left: u16, width: u8 },
 }
+
+// Which of these a code is.
+#[derive(Clone, Copy, PartialEq, Eq, Debug)]
+pub enum CodeKind {
+    Nothing,
+    Cell,
+    Above,
+    Beside,
+}

@@ -2,39 +2,76 @@
 //
 // Bits 0 and 1 are the kind: 0 nothing, 1 a cell, 2 above, 3 beside. A cell has its setting in bits 2 to 4; a cut has
 // its left set in bits 2 to 13, and a beside cut its left width in bits 14 to 18. All other bits are 0.
-ghost use Rattle.std.specs.Prelude.{◌≡◌, ◌/◌, ◌%◌, true, if◌then◌else◌, Some, None};
-ghost use Rattle.layout.specs.Codes.{code_kind, code_number, in_range, kind_limit, said, taken_apart, CodesRoundTrip};
+ghost use Rattle.std.specs.Prelude.{◌≡◌, ◌+◌, ◌*◌, ◌/◌, ◌%◌, ◌^◌, ◌<◌, nat_lt, true};
+ghost use Rattle.layout.specs.Codes.{code_kind, code_number, in_range, kind_bits, kind_limit, packed, said, unpacked, CodesRoundTrip};
 
-use crate::code::Code;
+use crate::code::{Code, CodeKind};
+use fault::{Fault, Refusal};
 
-// How many settings a word can say.
-const SETTINGS: u8 = 8;
+// Bits of a word that stand together.
+#[derive(Clone, Copy)]
+struct Bits {
+    // the first of them
+    at: u32,
+    // how many they are
+    count: u32,
+    ghost inside: { at + count < 32 },
+}
 
-// How many left sets.
-const SETS: u16 = 4096;
+// The kind, in every word.
+const KIND: Bits = Bits { at: 0, count: 2 };
 
-// How many left widths.
-const WIDTHS: u8 = 32;
+// The setting of a cell.
+const SETTING: Bits = Bits { at: 2, count: 3 };
 
-// The bit at which a setting begins.
-const SETTING_AT: u32 = 2;
+// The left set of a cut.
+const LEFT: Bits = Bits { at: 2, count: 12 };
 
-// The bit at which a left set begins.
-const LEFT_AT: u32 = 2;
+// The left width of a cut into parts beside each other.
+const WIDTH: Bits = Bits { at: 14, count: 5 };
 
-// The bit at which a left width begins.
-const WIDTH_AT: u32 = 14;
+impl Bits {
+    // Whether the number fits into them.
+    fn hold(self, part: u32) -> bool
+        ensures { result ≡ nat_lt part (2 ^ self.count) }
+    {
+        part < 1 << self.count
+    }
+
+    // The word with the number in them. Before, no bit from the first of them on is set.
+    fn put(self, part: u32, word: u32) -> u32
+        requires part { part < 2 ^ self.count }
+        requires word { word < 2 ^ self.at }
+        ensures { result ≡ part * 2 ^ self.at + word }
+    {
+        part << self.at | word
+    }
+
+    // The number in them.
+    fn read(self, word: u32) -> u32
+        ensures { result ≡ word / 2 ^ self.at % 2 ^ self.count }
+    {
+        word >> self.at & (1 << self.count) - 1
+    }
+
+    // The least word with a bit above them.
+    fn limit(self) -> u32
+        ensures { result ≡ 2 ^ (self.at + self.count) }
+    {
+        1 << self.at + self.count
+    }
+}
 
 impl Code {
-    // The number of the code's kind.
-    pub fn kind(self) -> u8
-        ensures { result ≡ code_kind self }
+    // The code's kind.
+    pub fn kind(self) -> CodeKind
+        ensures { kind_bits result ≡ code_kind self }
     {
         match self {
-            Code::Nothing => 0,
-            Code::Cell { .. } => 1,
-            Code::Above { .. } => 2,
-            Code::Beside { .. } => 3,
+            Code::Nothing => CodeKind::Nothing,
+            Code::Cell { .. } => CodeKind::Cell,
+            Code::Above { .. } => CodeKind::Above,
+            Code::Beside { .. } => CodeKind::Beside,
         }
     }
 
@@ -44,9 +81,11 @@ impl Code {
     {
         match self {
             Code::Nothing => true,
-            Code::Cell { setting } => setting < SETTINGS,
-            Code::Above { left } => left < SETS,
-            Code::Beside { left, width } => left < SETS && width < WIDTHS,
+            Code::Cell { setting } => SETTING.hold(u32::from(setting)),
+            Code::Above { left } => LEFT.hold(u32::from(left)),
+            Code::Beside { left, width } => {
+                LEFT.hold(u32::from(left)) && WIDTH.hold(u32::from(width))
+            }
         }
     }
 
@@ -55,97 +94,97 @@ impl Code {
         requires { in_range self ≡ true }
         ensures { result ≡ code_number self }
     {
+        let kind = KIND.put(u32::from(u8::from(self.kind())), 0);
         match self {
-            Code::Nothing => 0,
-            Code::Cell { setting } => u32::from(setting) << SETTING_AT | 1,
-            Code::Above { left } => u32::from(left) << LEFT_AT | 2,
+            Code::Nothing => kind,
+            Code::Cell { setting } => SETTING.put(u32::from(setting), kind),
+            Code::Above { left } => LEFT.put(u32::from(left), kind),
             Code::Beside { left, width } => {
-                u32::from(width) << WIDTH_AT | u32::from(left) << LEFT_AT | 3
+                WIDTH.put(u32::from(width), LEFT.put(u32::from(left), kind))
             }
         }
     }
+}
 
-    // The word that holds the code, or none where a part does not fit into its bits.
-    pub fn pack(self) -> Option<u32>
-        ensures { result ≡ (if in_range self then Some (code_number self) else None) }
-    {
-        if self.in_range() {
-            Some(self.word())
-        } else {
-            None
+// The word that holds a code. It is refused where a part does not fit into its bits.
+impl TryFrom<Code> for u32 {
+    type Error = Fault;
+
+    ghost try_from_gives = { λ code r. r ≡ packed code };
+
+    fn try_from(code: Code) -> Result<u32, Fault> {
+        if !code.in_range() {
+            return Err(Refusal::SpoiledCode.into());
         }
+        Ok(code.word())
     }
+}
 
-    // The code that the word holds, or none where a bit is set that its kind does not use.
-    pub fn unpack(word: u32) -> Option<Code>
-        ensures { result ≡ taken_apart word }
-    {
+// The code that a word holds. It is refused where a bit is set that its kind does not use.
+impl TryFrom<u32> for Code {
+    type Error = Fault;
+
+    ghost try_from_gives = { λ word r. r ≡ unpacked word };
+
+    fn try_from(word: u32) -> Result<Code, Fault> {
         let kind = kind_of(word);
-        if word < kind_limit(kind) {
-            Some(said(kind, word))
-        } else {
-            None
+        if word >= kind_limit(kind) {
+            return Err(Refusal::SpoiledCode.into());
         }
+        Ok(said(kind, word))
+    }
+}
+
+// The number of a kind in bits 0 and 1.
+impl From<CodeKind> for u8 {
+    ghost from_gives = { λ kind n. n ≡ kind_bits kind };
+
+    fn from(kind: CodeKind) -> u8 {
+        kind as u8
+    }
+}
+
+// The kind that a word says.
+fn kind_of(word: u32) -> CodeKind
+    ensures { kind_bits result ≡ word % 4 }
+{
+    match KIND.read(word) {
+        0 => CodeKind::Nothing,
+        1 => CodeKind::Cell,
+        2 => CodeKind::Above,
+        _ => CodeKind::Beside,
     }
 }
 
 // What the words of a kind stay below. A larger one has a bit set that its kind does not use.
-fn kind_limit(kind: u32) -> u32
-    ensures { result ≡ kind_limit kind }
+fn kind_limit(kind: CodeKind) -> u32
+    ensures { result ≡ kind_limit (kind_bits kind) }
 {
     match kind {
-        0 => 1,
-        1 => 1 << 5,
-        2 => 1 << 14,
-        _ => 1 << 19,
+        CodeKind::Nothing => 1,
+        CodeKind::Cell => SETTING.limit(),
+        CodeKind::Above => LEFT.limit(),
+        CodeKind::Beside => WIDTH.limit(),
     }
 }
 
 // What the parts of a word of this kind say.
-fn said(kind: u32, word: u32) -> Code
-    ensures { result ≡ said kind word }
+fn said(kind: CodeKind, word: u32) -> Code
+    ensures { result ≡ said (kind_bits kind) word }
 {
     match kind {
-        0 => Code::Nothing,
-        1 => Code::Cell {
-            setting: setting_of(word),
+        CodeKind::Nothing => Code::Nothing,
+        CodeKind::Cell => Code::Cell {
+            setting: SETTING.read(word) as u8,
         },
-        2 => Code::Above {
-            left: left_of(word),
+        CodeKind::Above => Code::Above {
+            left: LEFT.read(word) as u16,
         },
-        _ => Code::Beside {
-            left: left_of(word),
-            width: width_of(word),
+        CodeKind::Beside => Code::Beside {
+            left: LEFT.read(word) as u16,
+            width: WIDTH.read(word) as u8,
         },
     }
-}
-
-// The number of the word's kind.
-fn kind_of(word: u32) -> u32
-    ensures { result ≡ word % 4 }
-{
-    word & 3
-}
-
-// The setting in a cell's word.
-fn setting_of(word: u32) -> u8
-    ensures { result ≡ word / 4 % 8 }
-{
-    (word >> SETTING_AT & 7) as u8
-}
-
-// The left set in a cut's word.
-fn left_of(word: u32) -> u16
-    ensures { result ≡ word / 4 % 4096 }
-{
-    (word >> LEFT_AT & 0xfff) as u16
-}
-
-// The left width in a cut's word.
-fn width_of(word: u32) -> u8
-    ensures { result ≡ word / 16384 % 32 }
-{
-    (word >> WIDTH_AT & 0x1f) as u8
 }
 
 // A code whose parts fit is taken apart as it was packed, and each number that is a code was packed from it.

@@ -13,8 +13,7 @@ pub enum Cut {
 #[derive(Clone, Copy, PartialEq, Eq, Debug)]
 pub enum Kind {
     Cell,
-    Above,
-    Beside,
+    Cut(Cut),
 }
 
 // A cell or a cut of a layout. The entries of a cut are those of its left or upper part, those of the other part, and then its own.

@@ -5,22 +5,27 @@ ghost use Rattle.layout.specs.Texts.{opening, closing};
 
 use crate::entry::{Cut, Kind};
 
-impl Kind {
-    // The number by which users know the kind: 0 cell, 1 above, 2 beside.
-    pub fn number(self) -> u8
-        ensures { result ≡ kind_number self }
-    {
-        self as u8
-    }
+// The number by which users know a kind: 0 cell, 1 above, 2 beside.
+impl From<Kind> for u8 {
+    ghost from_gives = { λ kind n. n ≡ kind_number kind };
 
+    fn from(kind: Kind) -> u8 {
+        match kind {
+            Kind::Cell => 0,
+            Kind::Cut(Cut::Above) => 1,
+            Kind::Cut(Cut::Beside) => 2,
+        }
+    }
+}
+
+impl Kind {
     // The cut that it is, if it is one.
     pub fn cut(self) -> Option<Cut>
         ensures { result ≡ cut_of self }
     {
         match self {
             Kind::Cell => None,
-            Kind::Above => Some(Cut::Above),
-            Kind::Beside => Some(Cut::Beside),
+            Kind::Cut(cut) => Some(cut),
         }
     }
 }

@@ -12,7 +12,7 @@ mod reading;
 pub mod sets;
 mod writing;
 
-pub use code::Code;
+pub use code::{Code, CodeKind};
 pub use codes::codes_round_trip;
 pub use entry::{Cut, Entry, Kind};
 pub use layouts::{best_is_no_worse, one_layout};

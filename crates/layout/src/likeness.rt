@@ -15,13 +15,5 @@ fn agree(x: Entry, y: Entry) -> bool
 pub fn alike(xs: &[Entry], ys: &[Entry]) -> bool
     ensures { Decides result (Alike xs.now ys.now) }
 {
-    if xs.len() != ys.len() {
-        return false;
-    }
-    for i in 0..xs.len() {
-        if !agree(xs[i], ys[i]) {
-            return false;
-        }
-    }
-    true
+    xs.len() == ys.len() && xs.iter().zip(ys).all(|(x, y)| agree(*x, *y))
 }

@@ -22,26 +22,22 @@ fn is_cell(entry: Entry) -> bool
 fn is_cut(entry: Entry) -> bool
     ensures { Decides result (CutEntry entry) }
 {
-    entry.kind != Kind::Cell && entry.piece == 0 && entry.setting == 0
+    matches!(entry.kind, Kind::Cut(_)) && entry.piece == 0 && entry.setting == 0
 }
 
 // Where the layout begins that the entries end with; nothing where they end with none.
 fn last_layout(entries: &[Entry]) -> Option<usize>
     ensures { Begins entries.now result }
 {
-    if entries.is_empty() {
+    let (last, before) = entries.split_last()?;
+    if is_cell(*last) {
+        return Some(before.len());
+    }
+    if !is_cut(*last) {
         return None;
     }
-    let last = entries.len() - 1;
-    let entry = entries[last];
-    if is_cell(entry) {
-        return Some(last);
-    }
-    if !is_cut(entry) {
-        return None;
-    }
-    let middle = last_layout(&entries[0..last])?;
-    last_layout(&entries[0..middle])
+    let middle = last_layout(before)?;
+    last_layout(&before[..middle])
 }
 
 // The set with the piece of a cell; nothing where it has that piece already. A cut adds nothing.
@@ -61,11 +57,9 @@ fn with_entry(set: u16, entry: Entry) -> Option<u16>
 fn piece_set(entries: &[Entry]) -> Option<u16>
     ensures { Collected (λ k. cell_count k entries.now) result }
 {
-    let mut set = 0;
-    for i in 0..entries.len() {
-        set = with_entry(set, entries[i])?;
-    }
-    Some(set)
+    entries
+        .iter()
+        .try_fold(0, |set, entry| with_entry(set, *entry))
 }
 
 // Whether the entries are those of a layout of different pieces from a to l, in settings 0 to 7.
@@ -76,8 +70,5 @@ pub(crate) fn is_layout(entries: &[Entry]) -> bool
     if entries.len() > MOST_ENTRIES {
         return false;
     }
-    match last_layout(entries) {
-        Some(start) => start == 0 && piece_set(entries).is_some(),
-        None => false,
-    }
+    last_layout(entries) == Some(0) && piece_set(entries).is_some()
 }

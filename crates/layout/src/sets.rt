@@ -1,4 +1,4 @@
-// Sets of pieces as bit masks: bit k says whether piece k is in the set.
+// Sets of pieces as bit masks: bit k says whether piece k is in the set. That a set is its number is a rule: codes and rows go by it.
 ghost use Rattle.std.specs.Prelude.{◌≡◌, ◌==◌};
 ghost use Rattle.layout.specs.Sets.{bit, with_piece, SetsAreNumbers};
 

@@ -1,12 +1,12 @@
 // Measures whose amounts are filed in an order and written in decimal.
 ghost use Rattle.std.specs.Prelude.{◌≡◌};
-ghost use Rattle.fault.specs.Written.{Written};
+ghost use Rattle.fault.specs.WrittenBy.{WrittenBy};
 ghost use Rattle.measure.specs.Filing.{Filing, depth_filing, marked_filing};
 
-use crate::layers::{Ceiling, Gutter};
+use crate::layers::Layered;
 use crate::ranking::Measure;
 use crate::simple::{Depth, Marked, MarkedDepth};
-use fault::{Fault, Refusal, has_room, write_labelled};
+use fault::{Fault, Writer};
 
 // The most bytes that a written amount takes.
 pub const AMOUNT_ROOM: usize = 16;
@@ -20,10 +20,26 @@ pub trait Filed: Measure {
     fn amount(&self, marks: u16, depth: u16) -> Self::Amount
         ensures { result ≡ (filing self.now).amount marks depth };
 
-    // Writes the amount in decimal from place `at` on, and answers the place behind it.
-    // Where fewer than 16 bytes lie there, it is refused for want of memory, and nothing is written.
-    fn write(&self, a: Self::Amount, out: &mut [u8], at: usize) -> Result<usize, Fault>
-        ensures { Written 16 ((filing self.now).text a) out.old at out.new result };
+    // Writes the amount in decimal. Where fewer than 16 bytes lie from the writer's place on, it is refused for want of memory, and
+    // nothing is written.
+    fn write(&self, a: Self::Amount, out: &mut Writer<'_>) -> Result<(), Fault>
+        ensures { WrittenBy 16 ((filing self.now).text a) out.old out.new result };
+}
+
+// Layers hand both down.
+impl<L: Layered> Filed for L
+where
+    L::Lower: Filed,
+{
+    ghost filing = { λ l. L.Lower.filing (L.Layered.lower l) };
+
+    fn amount(&self, marks: u16, depth: u16) -> L::Amount {
+        self.lower().amount(marks, depth)
+    }
+
+    fn write(&self, a: L::Amount, out: &mut Writer<'_>) -> Result<(), Fault> {
+        self.lower().write(a, out)
+    }
 }
 
 impl Filed for Depth {
@@ -33,11 +49,10 @@ impl Filed for Depth {
         depth
     }
 
-    fn write(&self, a: u16, out: &mut [u8], at: usize) -> Result<usize, Fault> {
-        if !has_room(out, at, AMOUNT_ROOM) {
-            return Err(Fault::new(Refusal::Memory));
-        }
-        write_labelled(b"", u64::from(a), out, at)
+    // not by `write!`, which never promises that it succeeds
+    fn write(&self, a: u16, out: &mut Writer<'_>) -> Result<(), Fault> {
+        out.wants(AMOUNT_ROOM)?;
+        out.labelled("", u64::from(a))
     }
 }
 
@@ -48,35 +63,10 @@ impl Filed for Marked {
         MarkedDepth { marks, depth }
     }
 
-    fn write(&self, a: MarkedDepth, out: &mut [u8], at: usize) -> Result<usize, Fault> {
-        if !has_room(out, at, AMOUNT_ROOM) {
-            return Err(Fault::new(Refusal::Memory));
-        }
-        let behind = write_labelled(b"", u64::from(a.marks), out, at)?;
-        write_labelled(b"+", u64::from(a.depth), out, behind)
-    }
-}
-
-impl<M: Filed> Filed for Gutter<M> {
-    ghost filing = { λ m. M.Filed.filing m.lower };
-
-    fn amount(&self, marks: u16, depth: u16) -> M::Amount {
-        self.lower.amount(marks, depth)
-    }
-
-    fn write(&self, a: M::Amount, out: &mut [u8], at: usize) -> Result<usize, Fault> {
-        self.lower.write(a, out, at)
-    }
-}
-
-impl<M: Filed> Filed for Ceiling<M> {
-    ghost filing = { λ m. M.Filed.filing m.lower };
-
-    fn amount(&self, marks: u16, depth: u16) -> M::Amount {
-        self.lower.amount(marks, depth)
-    }
-
-    fn write(&self, a: M::Amount, out: &mut [u8], at: usize) -> Result<usize, Fault> {
-        self.lower.write(a, out, at)
+    // nor is this
+    fn write(&self, a: MarkedDepth, out: &mut Writer<'_>) -> Result<(), Fault> {
+        out.wants(AMOUNT_ROOM)?;
+        out.labelled("", u64::from(a.marks))?;
+        out.labelled("+", u64::from(a.depth))
     }
 }

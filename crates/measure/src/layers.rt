@@ -5,6 +5,18 @@ ghost use Rattle.measure.specs.Piled.{gutter_laws, ceiling_laws};
 
 use crate::ranking::Measure;
 
+// A measure over another one, whose amounts it has.
+pub trait Layered: Measure<Amount = <Self::Lower as Measure>::Amount> {
+    type Lower: Measure;
+
+    // the measure below
+    ghost lower: { Self → Self.Lower };
+
+    // The measure below.
+    fn lower(&self) -> &Self::Lower
+        ensures { result.now ≡ lower self.now };
+}
+
 // A measure whose parts above each other have a gap between them, of one fixed amount.
 #[derive(Drop)]
 pub struct Gutter<M: Measure> {
@@ -19,6 +31,7 @@ impl<M: Measure> Measure for Gutter<M> {
 
     ghost lawful = { λ m. gutter_laws _ (M.Measure.lawful m.lower) m.gap };
 
+    // one call, here and in the other layer: a trait that had it for both would have to have the other three methods too
     fn no_worse(&self, a: M::Amount, b: M::Amount) -> bool {
         self.lower.no_worse(a, b)
     }
@@ -37,6 +50,16 @@ impl<M: Measure> Measure for Gutter<M> {
     }
 }
 
+impl<M: Measure> Layered for Gutter<M> {
+    type Lower = M;
+
+    ghost lower = { λ m. m.lower };
+
+    fn lower(&self) -> &M {
+        &self.lower
+    }
+}
+
 // A measure that gives nothing worse than one fixed amount.
 #[derive(Drop)]
 pub struct Ceiling<M: Measure> {
@@ -49,12 +72,7 @@ impl<M: Measure> Ceiling<M> {
     fn within(&self, found: Option<M::Amount>) -> Option<M::Amount>
         ensures { result ≡ kept (M.Measure.functions self.now.lower) self.now.limit found }
     {
-        let a = found?;
-        if self.lower.no_worse(a, self.limit) {
-            Some(a)
-        } else {
-            None
-        }
+        found.filter(|a| self.lower.no_worse(*a, self.limit))
     }
 }
 
@@ -65,6 +83,7 @@ impl<M: Measure> Measure for Ceiling<M> {
 
     ghost lawful = { λ m. ceiling_laws _ (M.Measure.lawful m.lower) m.limit };
 
+    // one call, here and in the other layer: a trait that had it for both would have to have the other three methods too
     fn no_worse(&self, a: M::Amount, b: M::Amount) -> bool {
         self.lower.no_worse(a, b)
     }
@@ -79,5 +98,15 @@ impl<M: Measure> Measure for Ceiling<M> {
 
     fn above(&self, a: M::Amount, b: M::Amount) -> Option<M::Amount> {
         self.within(self.lower.above(a, b))
+    }
+}
+
+impl<M: Measure> Layered for Ceiling<M> {
+    type Lower = M;
+
+    ghost lower = { λ m. m.lower };
+
+    fn lower(&self) -> &M {
+        &self.lower
     }
 }

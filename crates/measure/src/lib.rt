@@ -8,6 +8,6 @@ pub mod simple;
 pub mod why;
 
 pub use filing::Filed;
-pub use layers::{Ceiling, Gutter};
+pub use layers::{Ceiling, Gutter, Layered};
 pub use ranking::{Measure, better};
 pub use simple::{Depth, Marked, MarkedDepth};

@@ -1,9 +1,16 @@
 // The two measures that stand alone: lines, and marks before lines.
-ghost use Rattle.measure.specs.Products.{depth, marked, with_marks};
+ghost use Rattle.measure.specs.Products.{depth, marked, with_marks, cell_depth};
 ghost use Rattle.std.specs.Prelude.{◌≡◌};
 ghost use Rattle.std.proofs.Common.{rules};
 
 use crate::ranking::Measure;
+
+// Whether a cell may have so many lines.
+fn is_cell_depth(depth: u16) -> bool
+    ensures { result ≡ cell_depth depth }
+{
+    (1..=2000).contains(&depth)
+}
 
 // Lines, 0 to 65,535; fewer is better.
 #[derive(Clone, Copy)]
@@ -21,7 +28,7 @@ impl Measure for Depth {
     }
 
     fn cell(&self, a: u16) -> Option<u16> {
-        if a >= 1 && a <= 2000 { Some(a) } else { None }
+        is_cell_depth(a).then_some(a)
     }
 
     fn beside(&self, a: u16, b: u16) -> Option<u16> {
@@ -33,8 +40,8 @@ impl Measure for Depth {
     }
 }
 
-// Marks (settings that an editor would rather avoid) and lines, each 0 to 65,535.
-#[derive(Clone, Copy, PartialEq, Eq, Debug)]
+// Marks (settings that an editor would rather avoid) and lines, each 0 to 65,535. They are ordered by marks, and at equal marks by lines.
+#[derive(Clone, Copy, PartialEq, Eq, PartialOrd, Ord, Debug)]
 pub struct MarkedDepth {
     pub marks: u16,
     pub depth: u16,
@@ -52,15 +59,11 @@ impl Measure for Marked {
     ghost lawful = { Prim.search rules };
 
     fn no_worse(&self, a: MarkedDepth, b: MarkedDepth) -> bool {
-        a.marks < b.marks || a.marks == b.marks && a.depth <= b.depth
+        a <= b
     }
 
     fn cell(&self, a: MarkedDepth) -> Option<MarkedDepth> {
-        if a.marks <= 1000 && a.depth >= 1 && a.depth <= 2000 {
-            Some(a)
-        } else {
-            None
-        }
+        (a.marks <= 1000 && is_cell_depth(a.depth)).then_some(a)
     }
 
     fn beside(&self, a: MarkedDepth, b: MarkedDepth) -> Option<MarkedDepth> {
@@ -77,9 +80,5 @@ fn with_marks(a: MarkedDepth, b: MarkedDepth, depth: u16) -> Option<MarkedDepth>
     ensures { result ≡ with_marks a b depth }
 {
     let marks = a.marks.saturating_add(b.marks);
-    if marks > 9999 {
-        None
-    } else {
-        Some(MarkedDepth { marks, depth })
-    }
+    (marks <= 9999).then_some(MarkedDepth { marks, depth })
 }

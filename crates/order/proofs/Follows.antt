@@ -6,7 +6,9 @@ use Rattle.fault.specs.declared.refusal.Refusal.TheVariants.{FileEndsEarly, Figu
 use Rattle.fault.specs.declared.refusal.Fault.{Fault}
 use Rattle.fault.specs.Faults.{fault_at}
 use Rattle.order.specs.declared.head.Figures.{Figures}
-use Rattle.order.specs.Order.{Size, byte, pair, Figure, sized, spelt}
+use Rattle.order.specs.Order.{Figure, sized, spelt}
+use Rattle.order.specs.declared.reader.Size.{Size}
+use Rattle.order.specs.declared.reader.Size.TheVariants.{Byte, Pair}
 use Rattle.order.specs.Format.{Format, done, figure, taken, number_at}
 
 abbrev pub due : Size → (low high value : ℕ) → Figure
@@ -53,20 +55,20 @@ Tells t before file (Err e) =
 
 -- ---- the bytes of a figure
 pub sized_long : (size : Size) (n : ℕ) → length (sized size n) ≡ taken size
-sized_long byte n = refl
-sized_long pair n = refl
+sized_long Byte n = refl
+sized_long Pair n = refl
 
 pub sized_same : (size : Size) (m n : ℕ) (x y : List ℕ) → sized size m ++ x ≡ sized size n ++ y → m ≡ n
-sized_same byte m n x y e = cc
-sized_same pair m n x y e =
+sized_same Byte m n x y e = cc
+sized_same Pair m n x y e =
     let a : m % 256 ≡ n % 256 = cc in
     let b : m / 256 ≡ n / 256 = cc in
     omega arith
 
 -- the bytes from a place on are those of the number there
 pub read_on : (size : Size) (file : List ℕ) (at : ℕ) → ((i : ℕ) → Fits w8 (get_or file i 0)) → at + taken size ≤ length file → take (at + taken size) file ≡ take at file ++ sized size (number_at size file at)
-read_on byte file at small h = take_more file at 0 (omega arith)
-read_on pair file at small h =
+read_on Byte file at small h = take_more file at 0 (omega arith)
+read_on Pair file at small h =
     let e : at + 2 ≡ (at + 1) + 1 = omega arith in
     let b : ℕ = get_or file at 0 in
     let c : ℕ = get_or file (at + 1) 0 in

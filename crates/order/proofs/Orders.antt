@@ -1,9 +1,11 @@
 -- The figures of an order are a path through the order format, each path is the figures of one order, and an order is told by its figures.
 use Rattle.std.proofs.Common.{◌≡◌, ℕ, zero, suc, ◌+◌, ◌≤◌, List, [], ◌∷◌, ◌++◌, map, length, take, drop, sym, refl, ap, ◌∙◌, subst, arith}
 use Rattle.std.specs.List.{flat_map, AllByRecursion}
-use Rattle.std.proofs.lemmas.List.{length-append, length-drop, length-take-le, take-append-drop, take_at, append_cancel_left}
+use Rattle.std.proofs.lemmas.List.{length-map, length-append, length-drop, length-take-le, take-append-drop, take_at, append_cancel_left}
 use Rattle.order.specs.declared.head.Figures.{Figures}
-use Rattle.order.specs.Order.{FiledSetting, Order, Size, byte, pair, Figure, InRange, settings, count_figure, width_figure, pair_figures, figures}
+use Rattle.order.specs.Order.{FiledSetting, Order, Figure, InRange, settings, count_figure, width_figure, pair_figures, figures}
+use Rattle.order.specs.declared.reader.Size.{Size}
+use Rattle.order.specs.declared.reader.Size.TheVariants.{Byte, Pair}
 use Rattle.order.specs.Format.{Format, done, figure, counts, widths, pairs, order_format}
 use Rattle.order.specs.Told.{head}
 use Rattle.order.proofs.Follows.{due, Follows}
@@ -121,7 +123,7 @@ record Counted (n total : ℕ) (next : ℕ → Format) (figs : List Figure) (h :
   ks : List ℕ
   rest : List Figure
   many : length ks ≡ n
-  is : figs ≡ map (due byte 1 8) ks ++ rest
+  is : figs ≡ map (due Byte 1 8) ks ++ rest
   follows : Follows (next (total + total_of ks)) rest h
 
 counted : (n total : ℕ) (next : ℕ → Format) (figs : List Figure) (h : Figures) → Follows (counts n total next) figs h → Counted n total next figs h
@@ -129,14 +131,14 @@ counted zero total next figs h f =
     let e : total ≡ total + 0 = omega arith in
     record { ks = []; rest = figs; many = refl; is = refl; follows = subst (λ m. Follows (next m) figs h) e f }
 counted (suc n) total next figs h f =
-    let a = first byte 1 8 (λ k. counts n (total + k) next) figs h f in
+    let a = first Byte 1 8 (λ k. counts n (total + k) next) figs h f in
     let b = counted n (total + a.value) next a.rest h a.follows in
     let e : (total + a.value) + total_of b.ks ≡ total + (a.value + total_of b.ks) = omega arith in
     record {
       ks = a.value ∷ b.ks;
       rest = b.rest;
       many = ap suc b.many;
-      is = a.is ∙ ap (λ l. due byte 1 8 a.value ∷ l) b.is;
+      is = a.is ∙ ap (λ l. due Byte 1 8 a.value ∷ l) b.is;
       follows = subst (λ m. Follows (next m) b.rest h) e b.follows;
     }
 
@@ -144,19 +146,19 @@ record Wide (n : ℕ) (next : Format) (figs : List Figure) (h : Figures) : Type 
   ws : List ℕ
   rest : List Figure
   many : length ws ≡ n
-  is : figs ≡ map (due byte 0 255) ws ++ rest
+  is : figs ≡ map (due Byte 0 255) ws ++ rest
   follows : Follows next rest h
 
 wide : (n : ℕ) (next : Format) (figs : List Figure) (h : Figures) → Follows (widths n next) figs h → Wide n next figs h
 wide zero next figs h f = record { ws = []; rest = figs; many = refl; is = refl; follows = f }
 wide (suc n) next figs h f =
-    let a = first byte 0 255 (λ _. widths n next) figs h f in
+    let a = first Byte 0 255 (λ _. widths n next) figs h f in
     let b = wide n next a.rest h a.follows in
     record {
       ws = a.value ∷ b.ws;
       rest = b.rest;
       many = ap suc b.many;
-      is = a.is ∙ ap (λ l. due byte 0 255 a.value ∷ l) b.is;
+      is = a.is ∙ ap (λ l. due Byte 0 255 a.value ∷ l) b.is;
       follows = b.follows;
     }
 
@@ -173,13 +175,13 @@ paired : (ws : List ℕ) (d : Figures) (figs : List Figure) (h : Figures) → Fo
 paired [] d [] h f = record { ss = []; wide_as = refl; is = refl; ends = f }
 paired [] d (g ∷ gs) h f = absurd f
 paired (w ∷ ws) d figs h f =
-    let a = first pair 0 1000 (λ _. figure pair 1 2000 (λ _. pairs (length ws) (done d))) figs h f in
-    let b = first pair 1 2000 (λ _. pairs (length ws) (done d)) a.rest h a.follows in
+    let a = first Pair 0 1000 (λ _. figure Pair 1 2000 (λ _. pairs (length ws) (done d))) figs h f in
+    let b = first Pair 1 2000 (λ _. pairs (length ws) (done d)) a.rest h a.follows in
     let c = paired ws d b.rest h b.follows in
     record {
       ss = record { width = w; marks = a.value; depth = b.value } ∷ c.ss;
       wide_as = ap (λ l. w ∷ l) c.wide_as;
-      is = a.is ∙ (ap (λ l. due pair 0 1000 a.value ∷ l) b.is ∙ ap (λ l. due pair 0 1000 a.value ∷ (due pair 1 2000 b.value ∷ l)) c.is);
+      is = a.is ∙ (ap (λ l. due Pair 0 1000 a.value ∷ l) b.is ∙ ap (λ l. due Pair 0 1000 a.value ∷ (due Pair 1 2000 b.value ∷ l)) c.is);
       ends = c.ends;
     }
 
@@ -201,17 +203,13 @@ dealt (k ∷ ks) ss e =
       all = ap (λ t. take k ss ++ t) d.all ∙ take-append-drop k ss;
     }
 
-counts_map : (ps : List (List FiledSetting)) → map count_figure ps ≡ map (due byte 1 8) (map (λ (p : List FiledSetting). length p) ps)
+counts_map : (ps : List (List FiledSetting)) → map count_figure ps ≡ map (due Byte 1 8) (map (λ (p : List FiledSetting). length p) ps)
 counts_map [] = refl
 counts_map (p ∷ ps) = ap (λ l. count_figure p ∷ l) (counts_map ps)
 
-widths_map : (ss : List FiledSetting) → map width_figure ss ≡ map (due byte 0 255) (map width_of ss)
+widths_map : (ss : List FiledSetting) → map width_figure ss ≡ map (due Byte 0 255) (map width_of ss)
 widths_map [] = refl
 widths_map (s ∷ ss) = ap (λ l. width_figure s ∷ l) (widths_map ss)
-
-map_long : {X Y : Type 0} (f : X → Y) (xs : List X) → length (map f xs) ≡ length xs
-map_long f [] = refl
-map_long f (x ∷ xs) = ap suc (map_long f xs)
 
 abbrev body_figures : List (List FiledSetting) → List Figure
 body_figures ps = map count_figure ps ++ (map width_figure (flat_map whole ps) ++ flat_map pair_figures (flat_map whole ps))
@@ -224,19 +222,19 @@ record Bodied (d : Figures) (figs : List Figure) (h : Figures) : Type 0 where
 
 -- pieces that have these counts, and settings that have these widths
 module _ (ks : List ℕ) (ss : List FiledSetting) (ws : List ℕ) (wide_as : map width_of ss ≡ ws) where
-  counts_are : (ps : List (List FiledSetting)) → map (λ (p : List FiledSetting). length p) ps ≡ ks → map count_figure ps ≡ map (due byte 1 8) ks
-  counts_are ps long = counts_map ps ∙ ap (map (due byte 1 8)) long
+  counts_are : (ps : List (List FiledSetting)) → map (λ (p : List FiledSetting). length p) ps ≡ ks → map count_figure ps ≡ map (due Byte 1 8) ks
+  counts_are ps long = counts_map ps ∙ ap (map (due Byte 1 8)) long
 
-  widths_are : map width_figure ss ≡ map (due byte 0 255) ws
-  widths_are = widths_map ss ∙ ap (map (due byte 0 255)) wide_as
+  widths_are : map width_figure ss ≡ map (due Byte 0 255) ws
+  widths_are = widths_map ss ∙ ap (map (due Byte 0 255)) wide_as
 
-  body_is : (ps : List (List FiledSetting)) (figs rest last : List Figure) → map (λ (p : List FiledSetting). length p) ps ≡ ks → flat_map whole ps ≡ ss → figs ≡ map (due byte 1 8) ks ++ rest → rest ≡ map (due byte 0 255) ws ++ last → last ≡ flat_map pair_figures ss → body_figures ps ≡ figs
+  body_is : (ps : List (List FiledSetting)) (figs rest last : List Figure) → map (λ (p : List FiledSetting). length p) ps ≡ ks → flat_map whole ps ≡ ss → figs ≡ map (due Byte 1 8) ks ++ rest → rest ≡ map (due Byte 0 255) ws ++ last → last ≡ flat_map pair_figures ss → body_figures ps ≡ figs
   body_is ps figs rest last long all a b c =
       ap (λ t. map count_figure ps ++ (map width_figure t ++ flat_map pair_figures t)) all
       ∙ (ap (λ t. t ++ (map width_figure ss ++ flat_map pair_figures ss)) (counts_are ps long)
-      ∙ (ap (λ t. map (due byte 1 8) ks ++ (t ++ flat_map pair_figures ss)) widths_are
-      ∙ (ap (λ t. map (due byte 1 8) ks ++ (map (due byte 0 255) ws ++ t)) (sym c)
-      ∙ (ap (λ t. map (due byte 1 8) ks ++ t) (sym b) ∙ sym a))))
+      ∙ (ap (λ t. map (due Byte 1 8) ks ++ (t ++ flat_map pair_figures ss)) widths_are
+      ∙ (ap (λ t. map (due Byte 1 8) ks ++ (map (due Byte 0 255) ws ++ t)) (sym c)
+      ∙ (ap (λ t. map (due Byte 1 8) ks ++ t) (sym b) ∙ sym a))))
 
 bodied : (d : Figures) (figs : List Figure) (h : Figures) → Follows (behind d) figs h → Bodied d figs h
 bodied d figs h f =
@@ -244,11 +242,11 @@ bodied d figs h f =
     let n : ℕ = 0 + total_of a.ks in
     let b = wide n (pairs n (done d)) a.rest h a.follows in
     let c = paired b.ws d b.rest h (subst (λ m. Follows (pairs m (done d)) b.rest h) (sym b.many) b.follows) in
-    let l : length c.ss ≡ n = sym (map_long width_of c.ss) ∙ (ap length c.wide_as ∙ b.many) in
+    let l : length c.ss ≡ n = sym (length-map c.ss width_of) ∙ (ap length c.wide_as ∙ b.many) in
     let e = dealt a.ks c.ss (omega arith) in
     record {
       ps = e.ps;
-      many = sym (map_long (λ (p : List FiledSetting). length p) e.ps) ∙ (ap length e.long ∙ a.many);
+      many = sym (length-map e.ps (λ (p : List FiledSetting). length p)) ∙ (ap length e.long ∙ a.many);
       is = body_is a.ks c.ss b.ws c.wide_as e.ps figs a.rest b.rest e.long e.all a.is b.is c.is;
       ends = c.ends;
     }
@@ -259,17 +257,17 @@ pub record Ordered (figs : List Figure) (h : Figures) : Type 0 where
   pub ends : head order ≡ h
 
 abbrev head_figures : Figures → List Figure → List Figure
-head_figures d rest = due byte 1 12 d.pieces ∷ (due byte 1 24 d.breadth ∷ (due byte 0 200 d.gutter ∷ (due pair 1 40000 d.ceiling ∷ rest)))
+head_figures d rest = due Byte 1 12 d.pieces ∷ (due Byte 1 24 d.breadth ∷ (due Byte 0 200 d.gutter ∷ (due Pair 1 40000 d.ceiling ∷ rest)))
 
 abbrev headed : (pieces breadth gutter ceiling : ℕ) → Figures
 headed n b g c = record { pieces = n; breadth = b; gutter = g; ceiling = c }
 
 pub ordered : (figs : List Figure) (h : Figures) → Follows order_format figs h → Ordered figs h
 ordered figs h f =
-    let a = first byte 1 12 (λ n. figure byte 1 24 (λ b. figure byte 0 200 (λ g. figure pair 1 40000 (λ c. behind (headed n b g c))))) figs h f in
-    let b = first byte 1 24 (λ b. figure byte 0 200 (λ g. figure pair 1 40000 (λ c. behind (headed a.value b g c)))) a.rest h a.follows in
-    let g = first byte 0 200 (λ g. figure pair 1 40000 (λ c. behind (headed a.value b.value g c))) b.rest h b.follows in
-    let c = first pair 1 40000 (λ c. behind (headed a.value b.value g.value c)) g.rest h g.follows in
+    let a = first Byte 1 12 (λ n. figure Byte 1 24 (λ b. figure Byte 0 200 (λ g. figure Pair 1 40000 (λ c. behind (headed n b g c))))) figs h f in
+    let b = first Byte 1 24 (λ b. figure Byte 0 200 (λ g. figure Pair 1 40000 (λ c. behind (headed a.value b g c)))) a.rest h a.follows in
+    let g = first Byte 0 200 (λ g. figure Pair 1 40000 (λ c. behind (headed a.value b.value g c))) b.rest h b.follows in
+    let c = first Pair 1 40000 (λ c. behind (headed a.value b.value g.value c)) g.rest h g.follows in
     let d : Figures = headed a.value b.value g.value c.value in
     let k = bodied d c.rest h c.follows in
     record {
@@ -277,9 +275,9 @@ ordered figs h f =
       is =
           ap (λ n. head_figures (headed n b.value g.value c.value) (body_figures k.ps)) k.many
           ∙ (ap (head_figures d) k.is
-          ∙ (ap (λ t. due byte 1 12 a.value ∷ (due byte 1 24 b.value ∷ (due byte 0 200 g.value ∷ t))) (sym c.is)
-          ∙ (ap (λ t. due byte 1 12 a.value ∷ (due byte 1 24 b.value ∷ t)) (sym g.is)
-          ∙ (ap (λ t. due byte 1 12 a.value ∷ t) (sym b.is) ∙ sym a.is))));
+          ∙ (ap (λ t. due Byte 1 12 a.value ∷ (due Byte 1 24 b.value ∷ (due Byte 0 200 g.value ∷ t))) (sym c.is)
+          ∙ (ap (λ t. due Byte 1 12 a.value ∷ (due Byte 1 24 b.value ∷ t)) (sym g.is)
+          ∙ (ap (λ t. due Byte 1 12 a.value ∷ t) (sym b.is) ∙ sym a.is))));
       ends = ap (λ n. headed n b.value g.value c.value) k.many ∙ k.ends;
     }
 
@@ -312,8 +310,8 @@ pairs_same [] (t ∷ ts) w e = let z : ◌≡◌ {A = ℕ} 0 1 = cc in absurd (o
 pairs_same (s ∷ ss) [] w e = let z : ◌≡◌ {A = ℕ} 0 1 = cc in absurd (omega arith)
 pairs_same (s ∷ ss) (t ∷ ts) w e =
     let a : s.width ≡ t.width = cc in
-    let f : due pair 0 1000 s.marks ≡ due pair 0 1000 t.marks = cc in
-    let g : due pair 1 2000 s.depth ≡ due pair 1 2000 t.depth = cc in
+    let f : due Pair 0 1000 s.marks ≡ due Pair 0 1000 t.marks = cc in
+    let g : due Pair 1 2000 s.depth ≡ due Pair 1 2000 t.depth = cc in
     let b : s.marks ≡ t.marks = ap (λ x. x.value) f in
     let c : s.depth ≡ t.depth = ap (λ x. x.value) g in
     let d : s ≡ t = ap (λ n. record { width = n; marks = s.marks; depth = s.depth }) a
@@ -342,10 +340,10 @@ long_as (p ∷ ps) = length-append p (flat_map whole ps) ∙ ap (λ n. length p 
 
 pub one_order : (o p : Order) → figures o ≡ figures p → o ≡ p
 one_order o p e =
-    let a : due byte 1 12 (length o.pieces) ≡ due byte 1 12 (length p.pieces) = cc in
-    let b : due byte 1 24 o.breadth ≡ due byte 1 24 p.breadth = cc in
-    let c : due byte 0 200 o.gutter ≡ due byte 0 200 p.gutter = cc in
-    let d : due pair 1 40000 o.ceiling ≡ due pair 1 40000 p.ceiling = cc in
+    let a : due Byte 1 12 (length o.pieces) ≡ due Byte 1 12 (length p.pieces) = cc in
+    let b : due Byte 1 24 o.breadth ≡ due Byte 1 24 p.breadth = cc in
+    let c : due Byte 0 200 o.gutter ≡ due Byte 0 200 p.gutter = cc in
+    let d : due Pair 1 40000 o.ceiling ≡ due Pair 1 40000 p.ceiling = cc in
     let r = counts_same o.pieces p.pieces _ _ (ap (λ f. f.value) a) (cc) in
     let l : length (settings o) ≡ length (settings p) = long_as o.pieces ∙ (ap total_of r.0 ∙ sym (long_as p.pieces)) in
     let w = widths_same (settings o) (settings p) _ _ l r.1 in

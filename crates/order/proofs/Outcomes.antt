@@ -7,15 +7,17 @@ use Rattle.fault.specs.declared.refusal.Refusal.TheVariants.{FileEndsEarly, Figu
 use Rattle.fault.specs.declared.refusal.Fault.{Fault}
 use Rattle.fault.specs.Faults.{fault_at}
 use Rattle.order.specs.declared.head.Figures.{Figures}
-use Rattle.order.specs.Order.{Size, byte, pair, Figure, sized, spelt}
+use Rattle.order.specs.Order.{Figure, sized, spelt}
+use Rattle.order.specs.declared.reader.Size.{Size}
+use Rattle.order.specs.declared.reader.Size.TheVariants.{Byte, Pair}
 use Rattle.order.specs.Format.{Format, done, figure, taken, number_at, run}
 use Rattle.order.proofs.Due.{due_good, due_bad, due_early, goes, stops}
 use Rattle.order.proofs.Follows.{due, Follows, Spells, Early, Misfit, Tells, sized_long, sized_same, read_on, take_further, same_value, moved, wider, narrower}
 
 -- some value is in range, and behind every low byte of a pair some pair is
 abbrev pub Roomy : Size → (low high : ℕ) → Type 0
-Roomy byte low high = low ≤ high
-Roomy pair low high = (low ≤ 256) × (511 ≤ high)
+Roomy Byte low high = low ≤ high
+Roomy Pair low high = (low ≤ 256) × (511 ≤ high)
 
 -- every figure of the format has room
 abbrev pub Open : Format → Type 0
@@ -23,8 +25,8 @@ Open (done h) = Unit {0}
 Open (figure size low high next) = Roomy size low high × ((v : ℕ) → low ≤ v → v ≤ high → Open (next v))
 
 roomy : (size : Size) (low high : ℕ) → Roomy size low high → low ≤ high
-roomy byte low high r = r
-roomy pair low high r = omega arith
+roomy Byte low high r = r
+roomy Pair low high r = omega arith
 
 pub record SomePath (t : Format) : Type 0 where
   pub path : List Figure
@@ -121,8 +123,8 @@ module _ (size : Size) (low high : ℕ) (next : ℕ → Format) (before file : L
         inr (inr (t.0, t.1, (t.2.0, t.2.1, narrow (take t.0 file) (drop t.0 file) rest' t.2.0 (take-append-drop t.0 file ∙ cut) t.2.2)))
 
 pub sized_some : (size : Size) (n : ℕ) (bs : List ℕ) → 0 < length (sized size n ++ bs)
-sized_some byte n bs = omega arith
-sized_some pair n bs = omega arith
+sized_some Byte n bs = omega arith
+sized_some Pair n bs = omega arith
 
 -- ---- the outcome holds
 module _ (size : Size) (low high : ℕ) (next : ℕ → Format) (open' : Open (figure size low high next)) (file : List ℕ) (at : ℕ) where
@@ -165,7 +167,7 @@ module _ (size : Size) (low high : ℕ) (next : ℕ → Format) (open' : Open (f
               ⊎_elim (λ x. omega arith) (λ x. omega arith) out;
         }
 
-half : (low high : ℕ) (next : ℕ → Format) → Open (figure pair low high next) → (file : List ℕ) (at : ℕ) → ((i : ℕ) → Fits w8 (get_or file i 0)) → at + 1 ≡ length file → Early (figure pair low high next) (take at file) file
+half : (low high : ℕ) (next : ℕ → Format) → Open (figure Pair low high next) → (file : List ℕ) (at : ℕ) → ((i : ℕ) → Fits w8 (get_or file i 0)) → at + 1 ≡ length file → Early (figure Pair low high next) (take at file) file
 half low high next o file at small e =
     let b : ℕ = get_or file at 0 in
     let l : b < 256 = omega (arith, (small at).fits) in
@@ -179,16 +181,16 @@ half low high next o file at small e =
       s.end,
       omega arith,
       record {
-        path = due pair low high (b + 256) ∷ s.path;
+        path = due Pair low high (b + 256) ∷ s.path;
         follows = (refl, lo, hi, s.follows);
         reads = ap (λ n. take at file ++ n ∷ bs) (sym k) ∙ (sym (append_assoc (take at file) (b ∷ []) bs) ∙ ap (λ x. x ++ bs) f);
       },
     )
 
 early_here : (size : Size) (low high : ℕ) (next : ℕ → Format) → Open (figure size low high next) → (file : List ℕ) (at : ℕ) → ((i : ℕ) → Fits w8 (get_or file i 0)) → length file < at + taken size → Early (figure size low high next) (take at file) file
-early_here byte low high next o file at small h = at_end byte low high next o file at (omega arith)
-early_here pair low high next o file at small h =
-    ⊎_elim (λ lt. half low high next o file at small (omega arith)) (λ le. at_end pair low high next o file at le) (cases_lt at (length file))
+early_here Byte low high next o file at small h = at_end Byte low high next o file at (omega arith)
+early_here Pair low high next o file at small h =
+    ⊎_elim (λ lt. half low high next o file at small (omega arith)) (λ le. at_end Pair low high next o file at le) (cases_lt at (length file))
 
 -- a value is in range, or it is not
 within : (low high v : ℕ) → ((low ≤ v) × (v ≤ high)) ⊎ ((v < low) ⊎ (high < v))

@@ -1,5 +1,5 @@
 -- What a run over the order format answers is settled, and a file has at most one reading.
-use Rattle.std.proofs.Common.{◌≡◌, ℕ, ◌+◌, ◌≤◌, List, [], ◌∷◌, ◌++◌, length, get_or, Ok, Err, Result, sym, ap, ◌∙◌, subst, inl, inr, arith, w8, Fits}
+use Rattle.std.proofs.Common.{◌≡◌, ℕ, ◌≤◌, List, [], ◌∷◌, ◌++◌, length, get_or, Ok, Err, Result, sym, ap, ◌∙◌, subst, inl, inr, arith, w8, Fits}
 use Rattle.std.specs.List.{flat_map, AllByRecursion}
 use Rattle.fault.specs.declared.refusal.Fault.{Fault}
 use Rattle.order.specs.declared.head.Figures.{Figures}
@@ -8,7 +8,7 @@ use Rattle.order.specs.Format.{order_format, run}
 use Rattle.order.specs.Told.{head, OutOfRange, Told, Settled, OneReading}
 use Rattle.order.proofs.Follows.{Follows, Spells, Misfit, Tells}
 use Rattle.order.proofs.Outcomes.{told, alone, one_path}
-use Rattle.order.proofs.Orders.{order_open, order_follows, in_range_all, ordered, one_order, last_part, behind}
+use Rattle.order.proofs.Orders.{order_open, order_follows, in_range_all, ordered, one_order}
 
 -- an order's bytes are what a path spells, and back
 spells : (w : List ℕ) (o : Order) → Reads w o → Spells order_format [] w (head o)
@@ -76,14 +76,6 @@ settles file small r e =
       told = from_tells file (run order_format file 0) (told order_format order_open file small 0 le);
       alone = λ s t. alone order_format order_open file small 0 le s (to_tells file s t);
     })
-
--- at the exit of a `?`, which hands the fault e on
-pub settles_at : (file : List ℕ) → ((i : ℕ) → Fits w8 (get_or file i 0)) → (r : Result Figures Fault) (e : Fault) → (d : Fault) × (r ≡ Err d) × (d ≡ e) → run order_format file 0 ≡ Err e → Settled file r
-settles_at file small r e p q = settles file small r (q ∙ (ap (λ x. Err x) (sym p.2) ∙ sym p.1))
-
--- a run that has come to the widths, behind k pieces
-pub to_widths : (file : List ℕ) (h : Figures) (n k : ℕ) → run order_format file 0 ≡ run (behind h) file 5 → run (behind h) file 5 ≡ run (last_part h n) file (5 + h.pieces) → k ≡ h.pieces → run order_format file 0 ≡ run (last_part h n) file (5 + k)
-to_widths file h n k a b e = a ∙ (b ∙ ap (λ x. run (last_part h n) file (5 + x)) (sym e))
 
 pub one_reading : OneReading
 one_reading file o p r s =

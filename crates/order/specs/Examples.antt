@@ -6,7 +6,8 @@ use Rattle.fault.specs.Faults.{fault_at, of_piece}
 use Rattle.measure.specs.Products.{depth, gutter}
 use Rattle.measure.specs.Filing.{depth_filing}
 use Rattle.page.specs.Pieces.{Held, empty}
-use Rattle.order.specs.Order.{FiledSetting, Order, pair, sized, bytes}
+use Rattle.order.specs.Order.{FiledSetting, Order, sized, bytes}
+use Rattle.order.specs.declared.reader.Size.TheVariants.{Pair}
 use Rattle.order.specs.Fills.{filling}
 use Rattle.order.specs.Headings.{heading}
 
@@ -33,7 +34,7 @@ sample_bytes : bytes (order_of 1 2 3) ≡
 sample_bytes = refl
 
 -- 40,000 is 64 and 156 times 256
-largest_ceiling : sized pair 40000 ≡ 64 ∷ (156 ∷ [])
+largest_ceiling : sized Pair 40000 ≡ 64 ∷ (156 ∷ [])
 largest_ceiling = refl
 
 -- its pieces put on an empty page with tables of 96 places

@@ -7,7 +7,8 @@ use Rattle.measure.specs.Measures.{Functions}
 use Rattle.measure.specs.Filing.{Filing}
 use Rattle.page.specs.Pieces.{Held}
 use Rattle.page.specs.Puts.{putting, with_piece}
-use Rattle.order.specs.Order.{FiledSetting, Order, pair, Reads}
+use Rattle.order.specs.Order.{FiledSetting, Order, Reads}
+use Rattle.order.specs.declared.reader.Size.TheVariants.{Pair}
 use Rattle.order.specs.Format.{number_at}
 use Rattle.order.specs.Told.{Told}
 
@@ -43,7 +44,7 @@ pub record Filled {A : Type 0} (m : Functions A) (f : Filing A) (file : List ℕ
 -- the amounts of n filed pairs that stand in a file from a place on
 abbrev pub amounts_at : {A : Type 0} → Filing A → List ℕ → ℕ → ℕ → List A
 amounts_at f file from zero = []
-amounts_at f file from (suc n) = f.amount (number_at pair file from) (number_at pair file (from + 2)) ∷ amounts_at f file (from + 4) n
+amounts_at f file from (suc n) = f.amount (number_at Pair file from) (number_at Pair file (from + 2)) ∷ amounts_at f file (from + 4) n
 
 -- what put answers, said of piece k of the file
 abbrev pub said_of : ℕ → Result ℕ Fault → Result ℕ Fault

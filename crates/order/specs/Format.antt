@@ -4,17 +4,18 @@ use Rattle.fault.specs.declared.refusal.Refusal.TheVariants.{FileEndsEarly, Figu
 use Rattle.fault.specs.declared.refusal.Fault.{Fault}
 use Rattle.fault.specs.Faults.{fault_at, then}
 use Rattle.order.specs.declared.head.Figures.{Figures}
-use Rattle.order.specs.Order.{Size, byte, pair}
+use Rattle.order.specs.declared.reader.Size.{Size}
+use Rattle.order.specs.declared.reader.Size.TheVariants.{Byte, Pair}
 
 -- the bytes that a figure takes
 abbrev pub taken : Size → ℕ
-taken byte = 1
-taken pair = 2
+taken Byte = 1
+taken Pair = 2
 
 -- the number that stands at a place
 abbrev pub number_at : Size → List ℕ → ℕ → ℕ
-number_at byte file at = slice_index file at
-number_at pair file at = slice_index file at + 256 * slice_index file (at + 1)
+number_at Byte file at = slice_index file at
+number_at Pair file at = slice_index file at + 256 * slice_index file (at + 1)
 
 -- a number is from low to high
 abbrev pub in_range : (low high n : ℕ) → Bool
@@ -41,23 +42,23 @@ run (figure size low high next) file at =
 -- the four figures at the head, and what follows them
 abbrev pub head_first : (Figures → Format) → Format
 head_first next =
-    figure byte 1 12 (λ n. figure byte 1 24 (λ b. figure byte 0 200 (λ g. figure pair 1 40000 (λ c.
+    figure Byte 1 12 (λ n. figure Byte 1 24 (λ b. figure Byte 0 200 (λ g. figure Pair 1 40000 (λ c.
     next (record { pieces = n; breadth = b; gutter = g; ceiling = c })))))
 
 -- the number of settings of each piece, and what follows their total
 abbrev pub counts : (pieces total : ℕ) → (ℕ → Format) → Format
 counts zero total next = next total
-counts (suc n) total next = figure byte 1 8 (λ k. counts n (total + k) next)
+counts (suc n) total next = figure Byte 1 8 (λ k. counts n (total + k) next)
 
 -- so many widths, each any byte
 abbrev pub widths : ℕ → Format → Format
 widths zero next = next
-widths (suc n) next = figure byte 0 255 (λ _. widths n next)
+widths (suc n) next = figure Byte 0 255 (λ _. widths n next)
 
 -- so many pairs of marks and depth
 abbrev pub pairs : ℕ → Format → Format
 pairs zero next = next
-pairs (suc n) next = figure pair 0 1000 (λ _. figure pair 1 2000 (λ _. pairs n next))
+pairs (suc n) next = figure Pair 0 1000 (λ _. figure Pair 1 2000 (λ _. pairs n next))
 
 -- an order file, whole
 abbrev pub order_format : Format

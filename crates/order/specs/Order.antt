@@ -1,6 +1,8 @@
 -- The order file as data: an order, its figures in file order with their ranges, and its bytes.
 use Rattle.std.specs.Prelude.{◌≡◌, ℕ, ◌/◌, ◌%◌, ◌≤◌, List, [], ◌∷◌, ◌++◌, map, length}
 use Rattle.std.specs.List.{flat_map, AllByRecursion}
+use Rattle.order.specs.declared.reader.Size.{Size}
+use Rattle.order.specs.declared.reader.Size.TheVariants.{Byte, Pair}
 
 -- a setting as an order files it: a width, and a pair of marks and depth
 pub record FiledSetting : Type 0 where
@@ -15,11 +17,6 @@ pub record Order : Type 0 where
   pub ceiling : ℕ
   pub pieces : List (List FiledSetting)
 
--- a figure takes one byte, or two with the low byte first
-pub data Size : Type 0 where
-  byte : Size
-  pair : Size
-
 -- a number in a file, with the range that it must keep, both ends included
 pub record Figure : Type 0 where
   pub size : Size
@@ -29,8 +26,8 @@ pub record Figure : Type 0 where
 
 -- the bytes of a number at a size
 abbrev pub sized : Size → ℕ → List ℕ
-sized byte n = n ∷ []
-sized pair n = n % 256 ∷ (n / 256 ∷ [])
+sized Byte n = n ∷ []
+sized Pair n = n % 256 ∷ (n / 256 ∷ [])
 
 -- the bytes of a figure
 abbrev pub spelt : Figure → List ℕ
@@ -46,25 +43,25 @@ settings o = flat_map (λ (p : List FiledSetting). p) o.pieces
 
 -- the number of settings of a piece
 abbrev pub count_figure : List FiledSetting → Figure
-count_figure p = record { size = byte; low = 1; high = 8; value = length p }
+count_figure p = record { size = Byte; low = 1; high = 8; value = length p }
 
 -- a width, which may be any byte: it is tested where its piece is put
 abbrev pub width_figure : FiledSetting → Figure
-width_figure s = record { size = byte; low = 0; high = 255; value = s.width }
+width_figure s = record { size = Byte; low = 0; high = 255; value = s.width }
 
 -- the marks and the depth of a setting
 abbrev pub pair_figures : FiledSetting → List Figure
 pair_figures s =
-    record { size = pair; low = 0; high = 1000; value = s.marks }
-    ∷ (record { size = pair; low = 1; high = 2000; value = s.depth } ∷ [])
+    record { size = Pair; low = 0; high = 1000; value = s.marks }
+    ∷ (record { size = Pair; low = 1; high = 2000; value = s.depth } ∷ [])
 
 -- the figures of an order, in file order
 abbrev pub figures : Order → List Figure
 figures o =
-    record { size = byte; low = 1; high = 12; value = length o.pieces }
-    ∷ (record { size = byte; low = 1; high = 24; value = o.breadth }
-    ∷ (record { size = byte; low = 0; high = 200; value = o.gutter }
-    ∷ (record { size = pair; low = 1; high = 40000; value = o.ceiling }
+    record { size = Byte; low = 1; high = 12; value = length o.pieces }
+    ∷ (record { size = Byte; low = 1; high = 24; value = o.breadth }
+    ∷ (record { size = Byte; low = 0; high = 200; value = o.gutter }
+    ∷ (record { size = Pair; low = 1; high = 40000; value = o.ceiling }
     ∷ (map count_figure o.pieces ++ (map width_figure (settings o) ++ flat_map pair_figures (settings o))))))
 
 -- the bytes of an order

@@ -1,78 +1,85 @@
 // The pieces of an order file, put on a page.
-ghost use Rattle.std.specs.Prelude.{◌≡◌, ◌+◌, ◌*◌, ◌≤◌, length, take, drop};
-ghost use Rattle.page.specs.Pieces.{held};
+ghost use Rattle.std.specs.Prelude.{◌≡◌, ◌*◌, ◌≤◌, length};
+ghost use Rattle.page.specs.Tables.{SameTables, held_in};
 ghost use Rattle.page.specs.Puts.{putting, put_leaves};
 ghost use Rattle.order.specs.Fills.{amounts_at, said_of, Spells, AllPut, Filled};
 
-use crate::checking::{check, pair_at};
-use fault::{Fault, Refusal};
+use crate::checking::check;
+use crate::reading::pair_at;
+use fault::{Fault, want_room};
 use measure::Filed;
-use page::Page;
+use page::{Page, Settings, Tables};
 
 // The amounts of scratch memory that a fill takes: the most settings that a piece has.
 pub const SCRATCH_PLACES: usize = 8;
 
-// Makes the amounts of `count` filed pairs that stand in the file from place `from` on, at the front of the scratch; the rest of it stays.
-fn read_amounts<M: Filed>(m: &M, file: &[u8], from: usize, count: usize, scratch: &mut [M::Amount])
-    requires { (from + 4 * count ≤ length file.now) × (count ≤ length scratch.old) }
-    ensures made { take count scratch.new ≡ amounts_at (M.Filed.filing m.now) file.now from count }
-    ensures rest { drop count scratch.new ≡ drop count scratch.old }
+// The bytes of a file's head.
+const HEAD_BYTES: usize = 5;
+
+// The bytes of a filed pair.
+const PAIR_BYTES: usize = 4;
+
+// The bytes that a setting takes in all, its width and its pair.
+const SETTING_BYTES: usize = 5;
+
+// Makes the amounts of filed pairs.
+fn read_amounts<M: Filed>(m: &M, pairs: &[u8], amounts: &mut [M::Amount])
+    requires { length pairs.now ≡ 4 * length amounts.old }
+    ensures { amounts.new ≡ amounts_at (M.Filed.filing m.now) pairs.now 0 (length amounts.old) }
 {
-    for j in 0..count {
-        let at = from + 4 * j;
-        scratch[j] = m.amount(pair_at(file, at), pair_at(file, at + 2));
+    // no `zip`: of what is written through an adapter of `iter_mut` nothing is known behind the loop
+    let mut rest = pairs;
+    for amount in amounts.iter_mut() {
+        let (pair, behind) = rest.split_at(PAIR_BYTES);
+        *amount = m.amount(pair_at(pair, 0), pair_at(pair, 2));
+        rest = behind;
     }
 }
 
-// Puts piece `piece` of the file, given by widths and amounts; a refusal is said of that piece.
+// Puts piece `piece` of the file; a refusal is said of that piece.
 fn put_piece<M: Filed>(
     m: &M,
     piece: u8,
-    widths: &[u8],
-    amounts: &[M::Amount],
+    settings: Settings<'_, M::Amount>,
     page: &mut Page,
-    width_table: &mut [u8],
-    amount_table: &mut [M::Amount],
+    tables: &mut Tables<'_, M::Amount>,
 ) -> Result<u8, Fault>
-    ensures answer { result ≡ said_of piece (putting (M.Measure.functions m.now) (held page.old width_table.old amount_table.old) widths.now amounts.now) }
-    ensures leaves { held page.new width_table.new amount_table.new ≡ put_leaves result (held page.old width_table.old amount_table.old) widths.now amounts.now }
+    ensures answer { result ≡ said_of piece (putting (M.Measure.functions m.now) (held_in page.old tables.old) settings.entry.widths.now settings.entry.amounts.now) }
+    ensures leaves { held_in page.new tables.new ≡ put_leaves result (held_in page.old tables.old) settings.entry.widths.now settings.entry.amounts.now }
+    ensures same { SameTables tables.old tables.new }
 {
-    match page.put(m, widths, amounts, width_table, amount_table) {
-        Ok(put) => Ok(put),
-        Err(fault) => Err(fault.of_piece(piece)),
-    }
+    page.put(m, settings, tables)
+        .map_err(|fault| fault.of_piece(piece))
 }
 
-// Puts the pieces of a good file, one by one. The numbers of settings stand behind the head of 5 bytes, then the widths, then the
-// filed pairs; so a setting takes one byte of width and four of its pair.
+// Puts the pieces of a good file, one by one. The numbers of settings stand behind the head, then the widths, then the filed pairs.
 fn put_pieces<M: Filed>(
     m: &M,
     file: &[u8],
     pieces: u8,
     page: &mut Page,
-    width_table: &mut [u8],
-    amount_table: &mut [M::Amount],
+    tables: &mut Tables<'_, M::Amount>,
     scratch: &mut [M::Amount],
 ) -> Result<u8, Fault>
     requires { (Spells file.now pieces) × (8 ≤ length scratch.old) }
-    ensures { AllPut (M.Measure.functions m.now) (M.Filed.filing m.now) file.now (held page.old width_table.old amount_table.old) (held page.new width_table.new amount_table.new) result }
+    ensures all { AllPut (M.Measure.functions m.now) (M.Filed.filing m.now) file.now (held_in page.old tables.old) (held_in page.new tables.new) result }
+    ensures same { SameTables tables.old tables.new }
 {
-    let mut width_at = 5 + usize::from(pieces);
-    let mut pair_at = width_at + (file.len() - width_at) / 5;
-    for piece in 0..pieces {
-        let count = usize::from(file[5 + usize::from(piece)]);
-        read_amounts(m, file, pair_at, count, scratch);
-        put_piece(
-            m,
-            piece,
-            &file[width_at..width_at + count],
-            &scratch[0..count],
-            page,
-            width_table,
-            amount_table,
-        )?;
-        width_at += count;
-        pair_at += 4 * count;
+    let (counts, rest) = file[HEAD_BYTES..].split_at(usize::from(pieces));
+    let (mut widths, mut pairs) = rest.split_at(rest.len() / SETTING_BYTES);
+    for (piece, &count) in counts.iter().enumerate() {
+        let count = usize::from(count);
+        let (own_widths, other_widths) = widths.split_at(count);
+        let (own_pairs, other_pairs) = pairs.split_at(PAIR_BYTES * count);
+        let amounts = &mut scratch[..count];
+        read_amounts(m, own_pairs, amounts);
+        let settings = Settings {
+            widths: own_widths,
+            amounts,
+        };
+        put_piece(m, piece as u8, settings, page, tables)?;
+        widths = other_widths;
+        pairs = other_pairs;
     }
     Ok(pieces)
 }
@@ -84,23 +91,13 @@ pub fn fill<M: Filed>(
     m: &M,
     file: &[u8],
     page: &mut Page,
-    width_table: &mut [u8],
-    amount_table: &mut [M::Amount],
+    tables: &mut Tables<'_, M::Amount>,
     scratch: &mut [M::Amount],
 ) -> Result<u8, Fault>
-    ensures { Filled (M.Measure.functions m.now) (M.Filed.filing m.now) file.now (length scratch.old) (held page.old width_table.old amount_table.old) (held page.new width_table.new amount_table.new) result }
+    ensures filled { Filled (M.Measure.functions m.now) (M.Filed.filing m.now) file.now (length scratch.old) (held_in page.old tables.old) (held_in page.new tables.new) result }
+    ensures same { SameTables tables.old tables.new }
 {
     let figures = check(file)?;
-    if scratch.len() < SCRATCH_PLACES {
-        return Err(Fault::new(Refusal::Memory));
-    }
-    put_pieces(
-        m,
-        file,
-        figures.pieces,
-        page,
-        width_table,
-        amount_table,
-        scratch,
-    )
+    want_room(scratch, 0, SCRATCH_PLACES)?;
+    put_pieces(m, file, figures.pieces, page, tables, scratch)
 }

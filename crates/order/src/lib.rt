@@ -5,6 +5,8 @@ pub mod checking;
 pub mod filling;
 pub mod head;
 pub mod headings;
+mod reader;
+mod reading;
 
 pub use checking::{check, one_outcome, one_reading};
 pub use filling::{SCRATCH_PLACES, fill};

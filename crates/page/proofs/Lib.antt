@@ -1,4 +1,3 @@
 pub mod Tested
-pub mod Kept
 pub mod Placed
 pub mod Obeyed

@@ -1,10 +1,9 @@
 -- What a page holds after a piece is put, amended or lifted.
-use Rattle.std.proofs.Common.{◌≡◌, ℕ, zero, suc, ◌+◌, ◌-◌, ◌*◌, ◌^◌, ◌<◌, ◌≤◌, min, ◌≢◌, ◌⊎◌, List, [], ◌∷◌, ◌++◌, length, get_or, take, drop, set, Ok, Err, Result, sym, refl, ap, ◌∙◌, inl, inr, add-one, arith}
+use Rattle.std.proofs.Common.{◌≡◌, ℕ, zero, suc, ◌+◌, ◌-◌, ◌*◌, ◌^◌, ◌<◌, ◌≤◌, min, ◌≢◌, List, [], ◌∷◌, ◌++◌, length, get_or, take, drop, set, Ok, Err, Result, sym, refl, ap, ◌∙◌, inl, inr, add-one, arith}
 use Rattle.std.proofs.lemmas.List.{append_assoc, length-append, length_push, length-take-le, length-drop, take-append-le, drop-append-le, drop-drop, take-append-drop, take_at, drop_at, set_at, set-append_left, get_or-set_same, get_or-set_other}
-use Rattle.std.proofs.lemmas.Bool.{lt-ltb, le-ltb, cases_lt, cases_order}
-use Rattle.fault.specs.declared.refusal.Refusal.TheVariants.{NoSuchPiece}
+use Rattle.std.proofs.lemmas.Bool.{lt-ltb, cases_order}
+use Rattle.std.proofs.lemmas.Bool.Decides.{nat_tests}
 use Rattle.fault.specs.declared.refusal.Fault.{Fault}
-use Rattle.fault.specs.Faults.{fault}
 use Rattle.fault.specs.Written.{overwrite}
 use Rattle.measure.specs.Measures.{Functions}
 use Rattle.measure.specs.Settings.{Setting, paired}
@@ -14,7 +13,7 @@ use Rattle.page.specs.declared.record.Page.{Page}
 use Rattle.page.specs.Puts.{with_piece, Laid, Put}
 use Rattle.page.specs.Amends.{sunk, with_amended, Amend}
 use Rattle.page.specs.Lifts.{lifting, lift_leaves, without_last, Lift}
-use Rattle.page.proofs.Tested.{fitting, refused}
+use Rattle.page.proofs.Tested.{fitting}
 
 module _ {A : Type 0} where
   -- a part that lies in the front of a table
@@ -117,20 +116,23 @@ module _ {A : Type 0} where
       ∙ sym (take_at (pieces_to h n) (piece h n ∷ []) n (length-pieces h n))
       ∙ ap (λ k. take k (pieces_to h (suc n))) (sym e)
 
+-- one piece more, of n settings
+abbrev with_last : ℕ → PageData → PageData
+with_last n q = record { breadth = q.breadth; count = q.count + 1; settings = set q.settings q.count n; standing = q.standing }
+
 -- a piece whose settings were laid into the tables is on the page
-pub put_done : {A : Type 0} (m : Functions A) (p : Page) (ws : List ℕ) (xs : List A) (widths : List ℕ) (amounts : List A) (n : ℕ) (q : PageData) (widths' : List ℕ) (amounts' : List A) →
-    q ≡ record { breadth = p.breadth; count = p.count + 1; settings = set p.settings p.count n; standing = p.standing } →
+pub put_done : {A : Type 0} {m : Functions A} (p : Page) {ws widths widths' : List ℕ} {xs amounts amounts' : List A} {n : ℕ} →
     p.count < 12 → length p.settings ≡ 12 → Laid m p.count ws xs widths amounts widths' amounts' (Ok n) →
-    Put m (held p widths amounts) ws xs (record { page = q; widths = widths'; amounts = amounts' }) (Ok p.count)
-put_done m p ws xs widths amounts n q widths' amounts' e few dozen l =
-    let f = fitting m ws xs (length widths) (length amounts) n l.answer in
+    Put m (held p widths amounts) ws xs (record { page = with_last n (data_of p); widths = widths'; amounts = amounts' }) (Ok p.count)
+put_done {m = m} p {ws} {widths} {widths'} {xs} {amounts} {amounts'} {n} few dozen l =
+    let f = fitting m ws xs (length widths) (length amounts) n (sym l.answer) in
     let h = held p widths amounts in
-    let page : q ≡ (with_piece h ws xs).page = e ∙ ap (λ v. record { breadth = p.breadth; count = p.count + 1; settings = set p.settings p.count v; standing = p.standing }) f.number in
-    let leaves : ◌≡◌ {A = Held _} (record { page = q; widths = widths'; amounts = amounts' }) (with_piece h ws xs) = (λ i. record { page = page i; widths = l.wide i; amounts = l.deep i }) in
+    let leaves : ◌≡◌ {A = Held _} (record { page = with_last n (data_of p); widths = widths'; amounts = amounts' }) (with_piece h ws xs) =
+    (λ i. record { page = with_last (f.number i) (data_of p); widths = l.wide i; amounts = l.deep i }) in
     record {
       answer = sym (simp (lt-ltb p.count 12 few, f.room, f.test));
       leaves = leaves;
-      holds = ap pieces leaves ∙ pieces_put h p.count ws xs (with_piece h ws xs).page refl few dozen f.wide f.deep f.few f.same p.here;
+      holds = ap pieces leaves ∙ pieces_put h p.count ws xs (with_piece h ws xs).page refl few dozen f.wide f.deep f.good.few f.good.same p.here;
     }
 
 -- another number of settings for piece k
@@ -138,31 +140,28 @@ abbrev with_settings : ℕ → ℕ → PageData → PageData
 with_settings k n s = record { breadth = s.breadth; count = s.count; settings = set s.settings k n; standing = s.standing }
 
 -- a piece whose settings were laid into the tables in place of its old ones is amended
-pub amend_done : {A : Type 0} (m : Functions A) (p : Page) (k : ℕ) (ws : List ℕ) (xs : List A) (widths : List ℕ) (amounts : List A) (n rows r : ℕ) (s : PageData) (widths' : List ℕ) (amounts' : List A) →
-    s ≡ sunk rows (data_of p) → r ≡ p.standing - min p.standing rows → rows ≡ 2 ^ k - 1 →
+pub amend_done : {A : Type 0} {m : Functions A} (p : Page) (q : PageData) {k rows r n : ℕ} {ws widths widths' : List ℕ} {xs amounts amounts' : List A} →
+    q ≡ sunk rows (data_of p) → r ≡ p.standing - min p.standing rows → rows ≡ 2 ^ k - 1 →
     k < p.count → length p.settings ≡ 12 → Laid m k ws xs widths amounts widths' amounts' (Ok n) →
-    Amend m (held p widths amounts) k ws xs (record { page = with_settings k n s; widths = widths'; amounts = amounts' }) (Ok r)
-amend_done m p k ws xs widths amounts n rows r s widths' amounts' sank fell all there dozen l =
-    let f = fitting m ws xs (length widths) (length amounts) n l.answer in
+    Amend m (held p widths amounts) k ws xs (record { page = with_settings k n q; widths = widths'; amounts = amounts' }) (Ok r)
+amend_done {m = m} p q {k} {rows} {r} {n} {ws} {widths} {widths'} {xs} {amounts} {amounts'} sank fell all there dozen l =
+    let f = fitting m ws xs (length widths) (length amounts) n (sym l.answer) in
     let h = held p widths amounts in
-    let page : with_settings k n s ≡ (with_amended h k ws xs).page = (λ i. with_settings k (f.number i) (sank i)) ∙ ap (λ v. with_settings k (length ws) (sunk v (data_of p))) all in
-    let leaves : ◌≡◌ {A = Held _} (record { page = with_settings k n s; widths = widths'; amounts = amounts' }) (with_amended h k ws xs) = (λ i. record { page = page i; widths = l.wide i; amounts = l.deep i }) in
+    let page : with_settings k n q ≡ (with_amended h k ws xs).page = (λ i. with_settings k (f.number i) (sank i)) ∙ ap (λ v. with_settings k (length ws) (sunk v (data_of p))) all in
+    let leaves : ◌≡◌ {A = Held _} (record { page = with_settings k n q; widths = widths'; amounts = amounts' }) (with_amended h k ws xs) = (λ i. record { page = page i; widths = l.wide i; amounts = l.deep i }) in
     record {
       answer = ap Ok (fell ∙ ap (λ v. p.standing - min p.standing v) all) ∙ sym (simp (lt-ltb k p.count there, f.room, f.test));
       leaves = leaves;
-      holds = ap pieces leaves ∙ pieces_amended h k ws xs (with_amended h k ws xs).page refl (omega (arith, p.few)) dozen f.wide f.deep f.few f.same p.count there p.here;
+      holds = ap pieces leaves ∙ pieces_amended h k ws xs (with_amended h k ws xs).page refl (omega (arith, p.few)) dozen f.wide f.deep f.good.few f.good.same p.count there p.here;
     }
 
 -- a lift is one whatever tables stand beside the record
 pub lift_done : {A : Type 0} (h : Held A) (q : PageData) (r : Result ℕ Fault) → r ≡ lifting h.page → q ≡ lift_leaves r h.page → Lift h (with_page q h) r
 lift_done h q (Ok n) a l =
+    let some : 0 < h.page.count = grind (arith, nat_tests) in
     record {
       answer = a;
       leaves = ap (λ p. with_page p h) l;
-      holds = ap (λ p. pieces (with_page p h)) l ∙ pieces_lifted h h.page.count (without_last h.page) (some (cases_lt 0 h.page.count)) refl;
+      holds = ap (λ p. pieces (with_page p h)) l ∙ pieces_lifted h h.page.count (without_last h.page) some refl;
     }
-  where
-    some : (0 < h.page.count) ⊎ (h.page.count ≤ 0) → 0 < h.page.count
-    some (inl b) = b
-    some (inr b) = let e : lifting h.page ≡ Err (fault NoSuchPiece) = rw (le-ltb 0 h.page.count b) in absurd (refused (sym (a ∙ e)))
 lift_done h q (Err e) a l = record { answer = a; leaves = ap (λ p. with_page p h) l; holds = ap (λ p. pieces (with_page p h)) l }

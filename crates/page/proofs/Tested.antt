@@ -1,94 +1,85 @@
--- One step of the tests of widths and amounts.
-use Rattle.std.proofs.Common.{◌≡◌, ℕ, ◌+◌, ◌<◌, ◌≤◌, true, false, cond, ◌&&◌, eqb, ltb, leb, ◌⊎◌, List, length, get_or, drop, Ok, Err, Result, sym, refl, ◌∙◌, inl, inr, arith}
-use Rattle.std.proofs.lemmas.List.{at_drop_more}
-use Rattle.std.proofs.lemmas.Bool.Decides.{nat_tests, leb_tells, eqb_tells}
-use Rattle.fault.specs.declared.refusal.Refusal.TheVariants.{Width, Amount}
+-- What the tests of settings and tables say.
+use Rattle.std.proofs.Common.{◌≡◌, ℕ, zero, suc, ◌+◌, ◌<◌, ◌≤◌, Bool, true, false, cond, List, [], ◌∷◌, length, get_or, Ok, Err, Result, refl, add-one, arith}
+use Rattle.std.proofs.lemmas.Bool.Decides.{nat_tests}
+use Rattle.fault.specs.declared.refusal.Refusal.TheVariants.{Amount}
 use Rattle.fault.specs.declared.refusal.Fault.{Fault}
 use Rattle.fault.specs.Faults.{fault_at, then}
 use Rattle.measure.specs.Measures.{Functions, better}
 use Rattle.page.specs.Puts.{counted, rising, improving, all_improving, tested, roomy, laying}
 
--- a width that rises
-pub rises : (ws : List ℕ) (last i : ℕ) (r : Result (Unit {0}) Fault) → i < length ws → last < get_or ws i 0 → get_or ws i 0 ≤ 24 → r ≡ rising last i (drop i ws) → r ≡ rising (get_or ws i 0) (i + 1) (drop (i + 1) ws)
-rises ws last i r h lo hi e =
-    let s : rising last i (drop i ws) ≡ cond (ltb last (get_or ws i 0) && leb (get_or ws i 0) 24) (rising (get_or ws i 0) (i + 1) (drop (i + 1) ws)) (Err (fault_at Width i)) = at_drop_more (rising last i) ws i 0 h in
-    grind (arith, nat_tests)
+-- what a test chose, where it was no refusal
+pub chosen : {B : Type 0} {v : B} (b : Bool) (r : Result B Fault) (f : Fault) → cond b r (Err f) ≡ Ok v → (b ≡ true) × (r ≡ Ok v)
+chosen true r f h = (refl, h)
+chosen false r f h = absurd cc
 
--- one that does not
-pub falls : (ws : List ℕ) (last i : ℕ) (r : Result (Unit {0}) Fault) → i < length ws → (get_or ws i 0 ≤ last) ⊎ ((last < get_or ws i 0) × (24 < get_or ws i 0)) → r ≡ rising last i (drop i ws) → r ≡ Err (fault_at Width i)
-falls ws last i r h bad e =
-    let s : rising last i (drop i ws) ≡ cond (ltb last (get_or ws i 0) && leb (get_or ws i 0) 24) (rising (get_or ws i 0) (i + 1) (drop (i + 1) ws)) (Err (fault_at Width i)) = at_drop_more (rising last i) ws i 0 h in
-    grind (arith, nat_tests)
+module _ {A : Type 0} (m : Functions A) where
+  -- amounts that are each better than the one before, the first better than a last
+  improving_all : (last : A) (i : ℕ) (xs : List A) → ((j : ℕ) (d : A) → j < length xs → better m (get_or xs j d) (get_or (last ∷ xs) j d) ≡ true) → improving m last i xs ≡ Ok tt
+  improving_all last i [] all = refl
+  improving_all last i (x ∷ xs) all = rw (all 0 x (omega arith)) (improving_all x (i + 1) xs (λ j d b. all (suc j) d (omega arith)))
 
-module _ {A : Type 0} (m : Functions A) (xs : List A) (last a : A) (i : ℕ) (r : Result (Unit {0}) Fault) (h : i < length xs) (here : a ≡ get_or xs i a) (e : r ≡ improving m last i (drop i xs)) where
-  compared : r ≡ cond (better m a last) (improving m a (i + 1) (drop (i + 1) xs)) (Err (fault_at Amount i))
-  compared = e ∙ (at_drop_more (improving m last i) xs i a h ∙ rw (sym here))
+  improving_each : (last : A) (i : ℕ) (xs : List A) → improving m last i xs ≡ Ok tt → (j : ℕ) (d : A) → j < length xs → better m (get_or xs j d) (get_or (last ∷ xs) j d) ≡ true
+  improving_each last i [] h j d b = absurd (omega arith)
+  improving_each last i (x ∷ xs) h zero d b = (chosen (better m x last) (improving m x (i + 1) xs) (fault_at Amount i) h).0
+  improving_each last i (x ∷ xs) h (suc j) d b = improving_each x (i + 1) xs (chosen (better m x last) (improving m x (i + 1) xs) (fault_at Amount i) h).1 j d (omega arith)
 
-  -- an amount that is better than the last
-  pub improves : better m a last ≡ true → r ≡ improving m a (i + 1) (drop (i + 1) xs)
-  improves b = compared ∙ rw b
+  -- and amounts of which one is the first that is not
+  improving_to : (last : A) (i : ℕ) (xs : List A) (k n : ℕ) → n ≡ i + k → k < length xs → ((j : ℕ) (d : A) → j < k → better m (get_or xs j d) (get_or (last ∷ xs) j d) ≡ true) → ((d : A) → better m (get_or xs k d) (get_or (last ∷ xs) k d) ≡ false) → improving m last i xs ≡ Err (fault_at Amount n)
+  improving_to last i [] k n e b all worse = absurd (omega arith)
+  improving_to last i (x ∷ xs) zero n e b all worse = let at : n ≡ i = omega arith in rw (worse x, at)
+  improving_to last i (x ∷ xs) (suc k) n e b all worse = rw (all 0 x (omega arith)) (improving_to x (i + 1) xs k n (omega arith) (omega arith) (λ j d c. all (suc j) d (omega arith)) worse)
 
-  -- one that is not
-  pub worsens : better m a last ≡ false → r ≡ Err (fault_at Amount i)
-  worsens b = compared ∙ rw b
+  -- the same of amounts of which no last one is known
+  pub all_improve : (xs : List A) → ((k : ℕ) (d : A) → k + 1 < length xs → better m (get_or xs (k + 1) d) (get_or xs k d) ≡ true) → all_improving m xs ≡ Ok tt
+  all_improve [] all = refl
+  all_improve (x ∷ xs) all = improving_all x 1 xs (λ j d b. rw add-one at (all j d (omega arith)))
 
--- a test that was refused did not pass
-pub refused : {T : Type 0} {f : Fault} {u : T} → ◌≡◌ {A = Result T Fault} (Err f) (Ok u) → ⊥
-refused h = let z : ◌≡◌ {A = ℕ} 0 1 = cc in omega arith
+  pub each_improves : (xs : List A) → all_improving m xs ≡ Ok tt → (k : ℕ) (d : A) → k + 1 < length xs → better m (get_or xs (k + 1) d) (get_or xs k d) ≡ true
+  each_improves [] h k d b = absurd (omega arith)
+  each_improves (x ∷ xs) h k d b = rw add-one (improving_each x 1 xs h k d (omega arith))
 
-roomy_ample : (n k : ℕ) → roomy n k ≡ Ok tt → (96 ≤ n) × (96 ≤ k)
-roomy_ample n k e = by (leb_tells 96 n) (leb_tells 96 k)
-  where
-    by : ((leb 96 n ≡ true) × (96 ≤ n)) ⊎ ((leb 96 n ≡ false) × (n < 96)) → ((leb 96 k ≡ true) × (96 ≤ k)) ⊎ ((leb 96 k ≡ false) × (k < 96)) → (96 ≤ n) × (96 ≤ k)
-    by (inl p) (inl q) = (p.1, q.1)
-    by (inl p) (inr q) = absurd (refused (simp (p.0, q.0) at e))
-    by (inr p) _ = absurd (refused (simp p.0 at e))
+  pub first_worse : (xs : List A) (k : ℕ) → k + 1 < length xs → ((j : ℕ) (d : A) → j < k → better m (get_or xs (j + 1) d) (get_or xs j d) ≡ true) → ((d : A) → better m (get_or xs (k + 1) d) (get_or xs k d) ≡ false) → all_improving m xs ≡ Err (fault_at Amount (k + 1))
+  first_worse [] k b all worse = absurd (omega arith)
+  first_worse (x ∷ xs) k b all worse = improving_to x 1 xs k (k + 1) (omega arith) (omega arith) (λ j d c. rw add-one at (all j d c)) (λ d. rw add-one at (worse d))
 
--- of two tests and an answer behind them, all went well
-pub both_passed : {T : Type 0} (a b : Result (Unit {0}) Fault) (t n : T) → Ok n ≡ then a (λ _. then b (λ _. Ok t)) → (a ≡ Ok tt) × ((b ≡ Ok tt) × (n ≡ t))
-both_passed (Ok u) (Ok v) t n h = (refl, (refl, cc))
-both_passed (Ok u) (Err f) t n h = absurd (refused (sym h))
-both_passed (Err f) b t n h = absurd (refused (sym h))
+-- a test that passed, and what followed it
+pub passed : {B : Type 0} {v : B} (a : Result (Unit {0}) Fault) (next : Unit {0} → Result B Fault) → then a next ≡ Ok v → (a ≡ Ok tt) × (next tt ≡ Ok v)
+passed (Ok u) next h = (refl, h)
+passed (Err f) next h = absurd cc
 
-counted_count : (n k : ℕ) → counted n k ≡ Ok tt → (1 ≤ n) × ((n ≤ 8) × (n ≡ k))
-counted_count n k e = by (leb_tells 1 n) (leb_tells n 8) (eqb_tells n k)
-  where
-    by : ((leb 1 n ≡ true) × (1 ≤ n)) ⊎ ((leb 1 n ≡ false) × (n < 1)) → ((leb n 8 ≡ true) × (n ≤ 8)) ⊎ ((leb n 8 ≡ false) × (8 < n)) → ((eqb n k ≡ true) × (n ≡ k)) ⊎ ((eqb n k ≡ false) × (n ≡ k → ⊥)) → (1 ≤ n) × ((n ≤ 8) × (n ≡ k))
-    by (inl p) (inl q) (inl r) = (p.1, (q.1, r.1))
-    by (inl p) (inl q) (inr r) = absurd (refused (simp (p.0, q.0, r.0) at e))
-    by (inl p) (inr q) _ = absurd (refused (simp (p.0, q.0) at e))
-    by (inr p) _ _ = absurd (refused (simp p.0 at e))
-
--- settings that passed each test
-pub record Passed {A : Type 0} (m : Functions A) (ws : List ℕ) (xs : List A) : Type 0 where
+-- settings that passed their tests
+pub record Good {A : Type 0} (m : Functions A) (ws : List ℕ) (xs : List A) : Type 0 where
   pub some : 1 ≤ length ws
   pub few : length ws ≤ 8
   pub same : length ws ≡ length xs
   pub rise : rising 0 0 ws ≡ Ok tt
   pub improve : all_improving m xs ≡ Ok tt
 
-pub passed : {A : Type 0} (m : Functions A) (ws : List ℕ) (xs : List A) → tested m ws xs ≡ Ok tt → Passed m ws xs
-passed m ws xs e = by (counted (length ws) (length xs)) (rising 0 0 ws) (all_improving m xs) refl refl refl e
-  where
-    by : (a b c : Result (Unit {0}) Fault) → counted (length ws) (length xs) ≡ a → rising 0 0 ws ≡ b → all_improving m xs ≡ c → then a (λ _. then b (λ _. c)) ≡ Ok tt → Passed m ws xs
-    by (Ok u) (Ok v) c p q r h = let n = counted_count (length ws) (length xs) p in record { some = n.0; few = n.1.0; same = n.1.1; rise = q; improve = r ∙ h }
-    by (Ok u) (Err f) c p q r h = absurd (refused h)
-    by (Err f) b c p q r h = absurd (refused h)
+counted_count : (n k : ℕ) → counted n k ≡ Ok tt → (1 ≤ n) × ((n ≤ 8) × (n ≡ k))
+counted_count n k e = grind (arith, nat_tests)
 
--- settings that were laid into the tables, as so many
+pub good : {A : Type 0} (m : Functions A) (ws : List ℕ) (xs : List A) → tested m ws xs ≡ Ok tt → Good m ws xs
+good m ws xs e =
+    let t = passed (counted (length ws) (length xs)) (λ _. then (rising 0 0 ws) (λ _. all_improving m xs)) e in
+    let u = passed (rising 0 0 ws) (λ _. all_improving m xs) t.1 in
+    let n = counted_count (length ws) (length xs) t.0 in
+    record { some = n.0; few = n.1.0; same = n.1.1; rise = u.0; improve = u.1 }
+
+-- settings that were laid into tables of so many places, as so many
 pub record Fitting {A : Type 0} (m : Functions A) (ws : List ℕ) (xs : List A) (widths amounts n : ℕ) : Type 0 where
   pub wide : 96 ≤ widths
   pub deep : 96 ≤ amounts
   pub room : roomy widths amounts ≡ Ok tt
   pub test : tested m ws xs ≡ Ok tt
   pub number : n ≡ length ws
-  pub some : 1 ≤ length ws
-  pub few : length ws ≤ 8
-  pub same : length ws ≡ length xs
+  pub good : Good m ws xs
 
-pub fitting : {A : Type 0} (m : Functions A) (ws : List ℕ) (xs : List A) (widths amounts n : ℕ) → Ok n ≡ laying m widths amounts ws xs → Fitting m ws xs widths amounts n
+roomy_ample : (n k : ℕ) → roomy n k ≡ Ok tt → (96 ≤ n) × (96 ≤ k)
+roomy_ample n k e = grind (arith, nat_tests)
+
+pub fitting : {A : Type 0} (m : Functions A) (ws : List ℕ) (xs : List A) (widths amounts n : ℕ) → laying m widths amounts ws xs ≡ Ok n → Fitting m ws xs widths amounts n
 fitting m ws xs widths amounts n e =
-    let b = both_passed (roomy widths amounts) (tested m ws xs) (length ws) n e in
-    let r = roomy_ample widths amounts b.0 in
-    let t = passed m ws xs b.1.0 in
-    record { wide = r.0; deep = r.1; room = b.0; test = b.1.0; number = b.1.1; some = t.some; few = t.few; same = t.same }
+    let r = passed (roomy widths amounts) (λ _. then (tested m ws xs) (λ _. Ok (length ws))) e in
+    let t = passed (tested m ws xs) (λ _. Ok (length ws)) r.1 in
+    let a = roomy_ample widths amounts r.0 in
+    record { wide = a.0; deep = a.1; room = r.0; test = t.0; number = cc; good = good m ws xs t.0 }

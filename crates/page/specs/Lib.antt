@@ -1,6 +1,7 @@
 pub mod Sound
 pub mod Pieces
 pub mod Puts
+pub mod Tables
 pub mod Amends
 pub mod Lifts
 pub mod Rules

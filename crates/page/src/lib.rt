@@ -3,7 +3,9 @@
 
 pub mod laws;
 pub mod record;
-mod testing;
+pub mod settings;
+pub mod tables;
 
 pub use record::Page;
-pub use record::putting::TABLE_PLACES;
+pub use settings::Settings;
+pub use tables::{TABLE_PLACES, Tables};

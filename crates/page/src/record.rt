@@ -12,6 +12,8 @@ ghost use Rattle.page.specs.Sound.{Here, Past};
 
 // What stands on a page: its breadth in columns, how many pieces it has, how many settings each of them has, and how many rows stand.
 // The type keeps each number in range. What is no piece has 0 settings, so a record is determined by what is on the page.
+// The numbers of settings are an array beside a count, since the record is fixed memory that callers copy whole. It has no `impl Model`:
+// callers would then see its value alone, and no more what the ghost fields say.
 #[derive(Clone, Copy)]
 pub struct Page {
     breadth: u8,

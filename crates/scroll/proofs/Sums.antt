@@ -95,7 +95,7 @@ module _ (file : List ℕ) (r : Result Figures Fault) (settled : Settled file r)
     }
 
 -- the line of what stands on the page
-pub replied_told : (file : List ℕ) (scratch : ℕ) (h k : Held ℕ) (before after : List ℕ) (end : ℕ) → Summed file scratch h k before after (Ok end) → Replied file scratch h k before after (record { accepted = true; end = end })
+pub replied_told : (file : List ℕ) (scratch : ℕ) (h k : Held ℕ) (before after : List ℕ) (end : ℕ) → Summed file scratch h k before after (Ok end) → Replied file scratch h k before after (Ok end)
 replied_told file scratch h k before after end s = record {
   refused = λ e t. absurd (unlike (s.refused e t).0);
   leaves = s.leaves;
@@ -103,23 +103,23 @@ replied_told file scratch h k before after end s = record {
   short = s.short end refl;
 }
   where
-    by : (q : Result ℕ Fault) (breadth : ℕ) → Lined q breadth before after (Ok end) → SaysOf q breadth before after (record { accepted = true; end = end })
-    by (Ok n) breadth w = let v = written_ok 80 (heading n breadth) before 0 after (Ok end) end w refl in record { told = refl; length_of = v.1.0 ∙ omega arith; memory = v.1.1 }
+    by : (q : Result ℕ Fault) (breadth : ℕ) → Lined q breadth before after (Ok end) → SaysOf q breadth before after (Ok end)
+    by (Ok n) breadth w = let v = written_ok 80 (heading n breadth) before 0 after (Ok end) end w refl in record { end = ap Ok (v.1.0 ∙ omega arith); memory = v.1.1 }
     by (Err e) breadth w = absurd (unlike w.0)
 
 -- the line of the refusal
-pub replied_refused : (file : List ℕ) (scratch : ℕ) (h k : Held ℕ) (before middle after : List ℕ) (x : Fault) (s : Result ℕ Fault) (end : ℕ) → 80 ≤ length before → Summed file scratch h k before middle (Err x) → Written 80 (refusal_text x) middle 0 after s → s ≡ Ok end → Replied file scratch h k before after (record { accepted = false; end = end })
+pub replied_refused : (file : List ℕ) (scratch : ℕ) (h k : Held ℕ) (before middle after : List ℕ) (x : Fault) (s : Result ℕ Fault) (end : ℕ) → 80 ≤ length before → Summed file scratch h k before middle (Err x) → Written 80 (refusal_text x) middle 0 after s → s ≡ Ok end → Replied file scratch h k before after (Err end)
 replied_refused file scratch h k before middle after x s end room sum w is =
     let v = written_ok 80 (refusal_text x) middle 0 after s end w is in
-    let says : middle ≡ before → Says false (refusal_text x) before after (record { accepted = false; end = end }) =
-    λ same. record { told = refl; length_of = v.1.0 ∙ omega arith; memory = v.1.1 ∙ ap (overwrite 0 (refusal_text x)) same } in
+    let says : middle ≡ before → Says Err (refusal_text x) before after (Err end) =
+    λ same. record { end = ap Err (v.1.0 ∙ omega arith); memory = v.1.1 ∙ ap (overwrite 0 (refusal_text x)) same } in
     record {
-      refused = λ e t. (let r = sum.refused e t in (r.1.0, subst (λ f. Says false (refusal_text f) before after (record { accepted = false; end = end })) (same_err r.0) (says r.1.1)));
+      refused = λ e t. (let r = sum.refused e t in (r.1.0, subst (λ f. Says Err (refusal_text f) before after (Err end)) (same_err r.0) (says r.1.1)));
       leaves = sum.leaves;
       line = λ o reads. by (scrolled o scratch h).answer o.breadth says (sum.line o reads);
       short = omega (arith, v.1.0, w.within v.0);
     }
   where
-    by : (q : Result ℕ Fault) (breadth : ℕ) → (middle ≡ before → Says false (refusal_text x) before after (record { accepted = false; end = end })) → Lined q breadth before middle (Err x) → SaysOf q breadth before after (record { accepted = false; end = end })
+    by : (q : Result ℕ Fault) (breadth : ℕ) → (middle ≡ before → Says Err (refusal_text x) before after (Err end)) → Lined q breadth before middle (Err x) → SaysOf q breadth before after (Err end)
     by (Ok n) breadth says l = let a : Err x ≡ Ok (0 + length (heading n breadth)) = l.answer ∙ rw (le-leb 80 (length before) room) in absurd (unlike (sym a))
-    by (Err e) breadth says l = subst (λ f. Says false (refusal_text f) before after (record { accepted = false; end = end })) (same_err l.0) (says l.1)
+    by (Err e) breadth says l = subst (λ f. Says Err (refusal_text f) before after (Err end)) (same_err l.0) (says l.1)

@@ -1,5 +1,5 @@
 -- What `scroll` says of an order file.
-use Rattle.std.specs.Prelude.{◌≡◌, ℕ, ◌≤◌, Bool, true, false, cond, List, length, Ok, Err, Result, nat_le}
+use Rattle.std.specs.Prelude.{◌≡◌, ℕ, ◌≤◌, cond, List, length, Ok, Err, Result, MatchResult, nat_le}
 use Rattle.fault.specs.declared.refusal.Refusal.TheVariants.{Memory}
 use Rattle.fault.specs.declared.refusal.Fault.{Fault}
 use Rattle.fault.specs.Faults.{fault}
@@ -12,7 +12,6 @@ use Rattle.order.specs.Order.{Order, Reads}
 use Rattle.order.specs.Told.{Told}
 use Rattle.order.specs.Fills.{Outcome, filling}
 use Rattle.order.specs.Headings.{heading}
-use Rattle.scroll.specs.declared.summary.Reply.{Reply}
 
 -- an empty page of the order's breadth, with the tables that h has
 abbrev pub fresh : Order → Held ℕ → Held ℕ
@@ -36,19 +35,18 @@ pub record Summed (file : List ℕ) (scratch : ℕ) (h k : Held ℕ) (before aft
   pub line : (o : Order) → Reads file o → Lined (scrolled o scratch h).answer o.breadth before after r
   pub short : (n : ℕ) → r ≡ Ok n → n ≤ 80
 
--- the line holds just this text at its front, and whether the order was accepted
-pub record Says (accepted : Bool) (text before after : List ℕ) (r : Reply) : Type 0 where
-  pub told : r.accepted ≡ accepted
-  pub length_of : r.end ≡ length text
+-- the line holds just this text at its front, and so many bytes are told of a page, or of a refusal
+pub record Says (told : ℕ → Result ℕ ℕ) (text before after : List ℕ) (r : Result ℕ ℕ) : Type 0 where
+  pub end : r ≡ told (length text)
   pub memory : after ≡ overwrite 0 text before
 
-abbrev pub SaysOf : Result ℕ Fault → ℕ → List ℕ → List ℕ → Reply → Type 0
-SaysOf (Ok n) breadth before after r = Says true (heading n breadth) before after r
-SaysOf (Err e) breadth before after r = Says false (refusal_text e) before after r
+abbrev pub SaysOf : Result ℕ Fault → ℕ → List ℕ → List ℕ → Result ℕ ℕ → Type 0
+SaysOf (Ok n) breadth before after r = Says Ok (heading n breadth) before after r
+SaysOf (Err e) breadth before after r = Says Err (refusal_text e) before after r
 
 -- every file gets its line, of at most 80 bytes: that of its order's page, or that of the refusal
-pub record Replied (file : List ℕ) (scratch : ℕ) (h k : Held ℕ) (before after : List ℕ) (r : Reply) : Type 0 where
-  pub refused : (e : Fault) → Told file (Err e) → (k ≡ h) × Says false (refusal_text e) before after r
+pub record Replied (file : List ℕ) (scratch : ℕ) (h k : Held ℕ) (before after : List ℕ) (r : Result ℕ ℕ) : Type 0 where
+  pub refused : (e : Fault) → Told file (Err e) → (k ≡ h) × Says Err (refusal_text e) before after r
   pub leaves : (o : Order) → Reads file o → k ≡ (scrolled o scratch h).leaves
   pub line : (o : Order) → Reads file o → SaysOf (scrolled o scratch h).answer o.breadth before after r
-  pub short : r.end ≤ 80
+  pub short : MatchResult r (λ n. n ≤ 80) (λ n. n ≤ 80)

@@ -1,20 +1,18 @@
-// Standard input, read until it ends or the buffer is full.
-ghost use Rattle.std.specs.Prelude.{◌≤◌, length, IfOk};
+// An order file read from an input.
+ghost use Rattle.std.specs.Prelude.{◌≡◌, ◌≤◌, take, vec_len, IfOk, IfSome};
 
+use std::alloc::Global;
 use std::io;
 use std::io::Read;
 
-// Fills the buffer from its front, joining short reads, and answers how many bytes came.
-pub fn read_order<R: Read>(input: &mut R, buffer: &mut [u8]) -> io::Result<usize>
-    ensures { IfOk result (λ n. n ≤ length buffer.old) }
+// The bytes of the input, of which at most so many are read.
+pub fn read_order<R: Read>(input: &mut R, limit: usize, alloc: Global) -> io::Result<Vec<u8>>
+    ensures most { IfOk result (λ file. vec_len file ≤ limit) }
+    ensures bytes { IfOk result (λ file. IfSome (R.remaining input.old) (λ xs. file.items ≡ take limit xs)) }
 {
-    let mut end = 0;
-    while end < buffer.len() {
-        let more = input.read(&mut buffer[end..])?;
-        if more == 0 {
-            break;
-        }
-        end += more;
-    }
-    Ok(end)
+    let mut file = Vec::new(alloc);
+    input.take(limit as u64).read_to_end(&mut file)?;
+    // no reader gives more, but only this line says so of every reader
+    file.truncate(limit);
+    Ok(file)
 }

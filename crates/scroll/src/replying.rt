@@ -1,13 +1,12 @@
 // An order file put on a page, and the line that is said of it.
 ghost use Rattle.std.specs.Prelude.{◌≡◌, length};
-ghost use Rattle.page.specs.Pieces.{held};
+ghost use Rattle.page.specs.Tables.{SameTables, held_in};
 ghost use Rattle.scroll.specs.Summary.{Summed, Replied};
 
-use crate::summary::Reply;
 use fault::{Fault, LINE_ROOM, refusal_line};
 use measure::{Depth, Filed, Gutter};
 use order::{Figures, check, fill, heading_line};
-use page::Page;
+use page::{Page, Tables};
 
 // Lines, with the file's gutter between pieces that are above each other.
 fn lines_with_gutter(figures: Figures) -> Gutter<Depth>
@@ -21,39 +20,34 @@ fn lines_with_gutter(figures: Figures) -> Gutter<Depth>
 fn summarize(
     file: &[u8],
     page: &mut Page,
-    width_table: &mut [u8],
-    amount_table: &mut [u16],
+    tables: &mut Tables<'_, u16>,
     scratch: &mut [u16],
     line: &mut [u8],
 ) -> Result<usize, Fault>
-    ensures { Summed file.now (length scratch.old) (held page.old width_table.old amount_table.old) (held page.new width_table.new amount_table.new) line.old line.new result }
+    ensures summed { Summed file.now (length scratch.old) (held_in page.old tables.old) (held_in page.new tables.new) line.old line.new result }
+    ensures same { SameTables tables.old tables.new }
 {
     let figures = check(file)?;
     page.open(figures.breadth)?;
     let m = lines_with_gutter(figures);
-    fill(&m, file, page, width_table, amount_table, scratch)?;
+    fill(&m, file, page, tables, scratch)?;
     heading_line(page, line)
 }
 
-// The line to print for a file: that of its page, or that of the refusal.
+// Writes the line to print for a file, and answers how many bytes that took: of its page's line, or else of the refusal's.
 pub fn reply(
     file: &[u8],
     page: &mut Page,
-    width_table: &mut [u8],
-    amount_table: &mut [u16],
+    tables: &mut Tables<'_, u16>,
     scratch: &mut [u16],
     line: &mut [u8; LINE_ROOM],
-) -> Reply
-    ensures { Replied file.now (length scratch.old) (held page.old width_table.old amount_table.old) (held page.new width_table.new amount_table.new) line.old line.new result }
+) -> Result<usize, usize>
+    ensures replied { Replied file.now (length scratch.old) (held_in page.old tables.old) (held_in page.new tables.new) line.old line.new result }
+    ensures same { SameTables tables.old tables.new }
 {
-    match summarize(file, page, width_table, amount_table, scratch, line) {
-        Ok(end) => Reply {
-            accepted: true,
-            end,
-        },
-        Err(fault) => Reply {
-            accepted: false,
-            end: refusal_line(fault, line).unwrap(),
-        },
+    // no `map_err`: what its closure wrote to the line would not be known behind it
+    match summarize(file, page, tables, scratch, line) {
+        Ok(end) => Ok(end),
+        Err(fault) => Err(refusal_line(fault, line).unwrap()),
     }
 }

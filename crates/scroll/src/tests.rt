@@ -1,8 +1,7 @@
 // What is read, and what is said of it.
 use crate::input::read_order;
 use crate::replying::reply;
-use crate::summary::Reply;
-use page::Page;
+use page::{Page, Tables};
 use std::io::Read;
 use std::process::Abort;
 use std::test::Fail;
@@ -16,25 +15,17 @@ const SAMPLE: [u8; 43] = [
 // The line that is said of a file is this text, and the order is accepted or not.
 fn says(rt: &impl Abort, file: &[u8], accepted: bool, text: &[u8]) {
     let mut line = [b'.'; 80];
-    let mut widths = [0u8; 96];
-    let mut amounts = [0u16; 96];
-    let mut scratch = [0u16; 8];
+    let mut tables = Tables {
+        widths: &mut [0; 96],
+        amounts: &mut [0; 96],
+    };
     let mut page = Page::new();
-    let Reply {
-        accepted: told,
-        end,
-    } = reply(
-        file,
-        &mut page,
-        &mut widths,
-        &mut amounts,
-        &mut scratch,
-        &mut line,
-    );
-    assert_eq!(rt; told, accepted);
+    let said = reply(file, &mut page, &mut tables, &mut [0; 8], &mut line);
+    assert_eq!(rt; said.is_ok(), accepted);
+    let (Ok(end) | Err(end)) = said;
     assert_eq!(rt; &line[0..end], text);
-    for i in end..80 {
-        assert_eq!(rt; line[i], b'.');
+    for byte in &line[end..80] {
+        assert_eq!(rt; *byte, b'.');
     }
 }
 
@@ -58,11 +49,9 @@ fn says_what_stands_or_why_not(rt: HostRuntime) {
 fn joins_short_reads(rt: HostRuntime) -> Result<(), Fail> {
     let front: &[u8] = b"abc";
     let back: &[u8] = b"defgh";
-    let mut buffer = [b'.'; 10];
-    assert_eq!(rt; read_order(&mut front.chain(back), &mut buffer)?, 8);
-    assert_eq!(rt; &buffer, b"abcdefgh..");
-    let mut small = [b'.'; 5];
-    assert_eq!(rt; read_order(&mut front.chain(back), &mut small)?, 5);
-    assert_eq!(rt; &small, b"abcde");
+    let whole = read_order(&mut front.chain(back), 10, rt.alloc())?;
+    assert_eq!(rt; whole.as_slice(), b"abcdefgh".as_slice());
+    let small = read_order(&mut front.chain(back), 5, rt.alloc())?;
+    assert_eq!(rt; small.as_slice(), b"abcde".as_slice());
     Ok(())
 }

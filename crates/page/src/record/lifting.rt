@@ -15,7 +15,7 @@ impl Page {
         ensures leaves { data_of self.new ≡ lift_leaves result (data_of self.old) }
     {
         if self.count < 1 {
-            return Err(Fault::new(Refusal::NoSuchPiece));
+            return Err(Refusal::NoSuchPiece.into());
         }
         let last = self.count - 1;
         let fallen = self.fall(all_rows(last));

@@ -1,5 +1,5 @@
 // Pages opened, and what their records say.
-ghost use Rattle.std.specs.Prelude.{◌≡◌};
+ghost use Rattle.std.specs.Prelude.{◌≡◌, ◌≤◌};
 ghost use Rattle.page.specs.Pieces.{empty, data_of};
 ghost use Rattle.page.specs.Puts.{opening, opened};
 
@@ -11,8 +11,16 @@ impl Page {
     pub fn new() -> Page
         ensures { data_of result ≡ empty 1 }
     {
+        Page::empty(1)
+    }
+
+    // An empty page of this breadth.
+    fn empty(breadth: u8) -> Page
+        requires { (1 ≤ breadth) × (breadth ≤ 24) }
+        ensures { data_of result ≡ empty breadth }
+    {
         Page {
-            breadth: 1,
+            breadth,
             count: 0,
             settings: [0; 12],
             standing: 0,
@@ -24,15 +32,10 @@ impl Page {
         ensures answer { result ≡ opening breadth }
         ensures leaves { data_of self.new ≡ opened result breadth (data_of self.old) }
     {
-        if breadth < 1 || breadth > 24 {
-            return Err(Fault::new(Refusal::Breadth));
+        if !(1..=24).contains(&breadth) {
+            return Err(Refusal::Breadth.into());
         }
-        *self = Page {
-            breadth,
-            count: 0,
-            settings: [0; 12],
-            standing: 0,
-        };
+        *self = Page::empty(breadth);
         Ok(())
     }
 

@@ -2,4 +2,4 @@ use Rattle.page.proofs.Obeyed.{pages_obey}
 use Rattle.page.proofs.laws.pages_obey.Goals as goal
 
 pub returns : goal.returns
-returns g c = pages_obey (g.M.Measure.functions c.args._m.now)
+returns g c = pages_obey _
