@@ -1,4 +1,7 @@
 // Entries compared, and the lines that they make.
+ghost use Rattle.std.specs.Prelude.{◌≡◌};
+ghost use Rattle.layout.specs.Entries.{cell_entry};
+
 use crate::lines::begins_with;
 use fault::{Fault, Refusal};
 use layout::{Cut, Entry, Kind, alike, layout_line, none_line};
@@ -17,7 +20,9 @@ const BESIDE: Entry = Entry {
 };
 
 // A piece in a setting.
-fn cell(piece: u8, setting: u8) -> Entry {
+fn cell(piece: u8, setting: u8) -> Entry
+    ensures { result ≡ cell_entry piece setting }
+{
     Entry {
         kind: Kind::Cell,
         piece,
