@@ -2,7 +2,7 @@
 ghost use Rattle.std.specs.Prelude.{◌≡◌};
 ghost use Rattle.layout.specs.Entries.{cell_entry};
 
-use crate::lines::begins_with;
+use crate::lines::{begins_with, told};
 use fault::{Fault, Refusal};
 use layout::{Cut, Entry, Kind, alike, layout_line, none_line};
 use measure::{Depth, Marked, MarkedDepth};
@@ -86,17 +86,11 @@ fn layouts_have_lines(rt: HostRuntime) {
     ];
     for (width, depth, entries, text) in cases {
         let mut short = [b'#'; 79];
-        assert_eq!(rt;
-            layout_line(&Depth, width, depth, entries, &mut short),
-            Err(Fault::from(Refusal::Memory))
-        );
-        begins_with(&rt, &short, b"");
+        let answer = layout_line(&Depth, width, depth, entries, &mut short);
+        told(&rt, answer, &short, Err(Refusal::Memory));
         let mut line = [b'#'; 80];
-        assert_eq!(rt;
-            layout_line(&Depth, width, depth, entries, &mut line),
-            Ok(text.len())
-        );
-        begins_with(&rt, &line, text);
+        let answer = layout_line(&Depth, width, depth, entries, &mut line);
+        told(&rt, answer, &line, Ok(text));
     }
 }
 
@@ -169,11 +163,8 @@ fn the_longest_layouts_have_lines(rt: HostRuntime) {
     ];
     for (entries, text) in cases {
         let mut line = [b'#'; 81];
-        assert_eq!(rt;
-            layout_line(&Marked, 24, amount, entries, &mut line),
-            Ok(text.len())
-        );
-        begins_with(&rt, &line, text);
+        let answer = layout_line(&Marked, 24, amount, entries, &mut line);
+        told(&rt, answer, &line, Ok(text));
         // without its last entry it is none, whatever stands before it
         assert_eq!(rt;
             layout_line(&Marked, 24, amount, &entries[0..22], &mut line),
@@ -229,17 +220,11 @@ fn other_entries_have_no_line(rt: HostRuntime) {
     ];
     for entries in cases {
         let mut short = [b'#'; 79];
-        assert_eq!(rt;
-            layout_line(&Depth, 1, 1, entries, &mut short),
-            Err(Fault::from(Refusal::Memory))
-        );
-        begins_with(&rt, &short, b"");
+        let answer = layout_line(&Depth, 1, 1, entries, &mut short);
+        told(&rt, answer, &short, Err(Refusal::Memory));
         let mut line = [b'#'; 80];
-        assert_eq!(rt;
-            layout_line(&Depth, 1, 1, entries, &mut line),
-            Err(Fault::from(Refusal::SpoiledCode))
-        );
-        begins_with(&rt, &line, b"");
+        let answer = layout_line(&Depth, 1, 1, entries, &mut line);
+        told(&rt, answer, &line, Err(Refusal::SpoiledCode));
     }
 }
 
@@ -254,13 +239,10 @@ fn no_layout_has_a_line(rt: HostRuntime) {
     ];
     for (width, text) in cases {
         let mut short = [b'#'; 79];
-        assert_eq!(rt;
-            none_line(width, &mut short),
-            Err(Fault::from(Refusal::Memory))
-        );
-        begins_with(&rt, &short, b"");
+        let answer = none_line(width, &mut short);
+        told(&rt, answer, &short, Err(Refusal::Memory));
         let mut line = [b'#'; 80];
-        assert_eq!(rt; none_line(width, &mut line), Ok(text.len()));
-        begins_with(&rt, &line, text);
+        let answer = none_line(width, &mut line);
+        told(&rt, answer, &line, Ok(text));
     }
 }

@@ -1,8 +1,9 @@
 // The lines that say what stands on a page and what was refused.
-use crate::pages::{put_apart, settings_of};
+use crate::pages::settings_of;
 use fault::{Fault, Refusal, refusal_line};
+use measure::Depth;
 use order::heading_line;
-use page::Page;
+use page::{Page, Tables};
 use std::process::Abort;
 use std::test::Fail;
 
@@ -12,6 +13,18 @@ pub(crate) fn begins_with(rt: &impl Abort, line: &[u8], text: &[u8]) {
         let due = text.get(i).copied().unwrap_or(b'#');
         assert_eq!(rt; char::from(*byte), char::from(due), "byte {i}");
     }
+}
+
+// Of a buffer that was all `#` the call answered that this text is written to its front, or that it is refused; the rest of it is the same.
+pub(crate) fn told(
+    rt: &impl Abort,
+    answer: Result<usize, Fault>,
+    line: &[u8],
+    text: Result<&[u8], Refusal>,
+) {
+    let due = text.map(|text| text.len()).map_err(Fault::from);
+    assert_eq!(rt; answer, due);
+    begins_with(rt, line, text.unwrap_or(b""));
 }
 
 // A page's line takes a buffer of 80 bytes, however short it is.
@@ -25,19 +38,20 @@ fn a_heading_counts_pieces(rt: HostRuntime) -> Result<(), Fail> {
     ];
     for (pieces, breadth, text) in cases {
         let mut page = Page::new();
+        let tables = &mut Tables {
+            widths: &mut [0; 96],
+            amounts: &mut [0; 96],
+        };
         page.open(breadth)?;
         for _ in 0..pieces {
-            put_apart(&rt, &mut page, settings_of(&[1], &[1]));
+            page.put(&Depth, settings_of(&[1], &[1]), tables)?;
         }
         let mut short = [b'#'; 79];
-        assert_eq!(rt;
-            heading_line(&page, &mut short),
-            Err(Refusal::Memory.into())
-        );
-        begins_with(&rt, &short, b"");
+        let answer = heading_line(&page, &mut short);
+        told(&rt, answer, &short, Err(Refusal::Memory));
         let mut line = [b'#'; 80];
-        assert_eq!(rt; heading_line(&page, &mut line), Ok(text.len()));
-        begins_with(&rt, &line, text);
+        let answer = heading_line(&page, &mut line);
+        told(&rt, answer, &line, Ok(text));
     }
     Ok(())
 }
@@ -98,14 +112,11 @@ fn a_refusal_has_a_line(rt: HostRuntime) -> Result<(), Fail> {
     ];
     for (fault, text) in cases {
         let mut short = [b'#'; 79];
-        assert_eq!(rt;
-            refusal_line(fault, &mut short),
-            Err(Refusal::Memory.into())
-        );
-        begins_with(&rt, &short, b"");
+        let answer = refusal_line(fault, &mut short);
+        told(&rt, answer, &short, Err(Refusal::Memory));
         let mut line = [b'#'; 80];
-        assert_eq!(rt; refusal_line(fault, &mut line), Ok(text.len()));
-        begins_with(&rt, &line, text.as_bytes());
+        let answer = refusal_line(fault, &mut line);
+        told(&rt, answer, &line, Ok(text.as_bytes()));
         let shown = format!(in rt.alloc(); "{fault}")?;
         assert_eq!(rt; shown.as_str(), text);
     }

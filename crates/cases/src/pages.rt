@@ -1,10 +1,9 @@
 // Pages opened, and pieces put on them, amended and lifted.
-ghost use Rattle.std.specs.Prelude.{◌≡◌, ◌+◌};
+ghost use Rattle.std.specs.Prelude.{◌≡◌};
 
 use fault::{Fault, Refusal};
 use measure::{Depth, Marked, MarkedDepth};
 use page::{Page, Settings, Tables};
-use std::process::Abort;
 use std::test::Fail;
 
 // Eight settings that are good, and the first few of them too.
@@ -25,25 +24,17 @@ pub(crate) fn settings_of<'a, A>(widths: &'a [u8], amounts: &'a [A]) -> Settings
     Settings { widths, amounts }
 }
 
-// Puts a piece on the page, its settings in tables that nothing looks at.
-pub(crate) fn put_apart(rt: &impl Abort, page: &mut Page, settings: Settings<'_, u16>)
-    ensures { page.new.count ≡ page.old.count + 1 }
-{
+// A page opens at 1 to 24 columns, without pieces. Any other breadth is refused, and leaves the page as it was.
+#[test]
+fn pages_open_at_1_to_24_columns(rt: HostRuntime) -> Result<(), Fail> {
+    let mut page = Page::new();
     let tables = &mut Tables {
         widths: &mut [0; 96],
         amounts: &mut [0; 96],
     };
-    let piece = page.count();
-    assert_eq!(rt; page.put(&Depth, settings, tables), Ok(piece));
-}
-
-// A page opens at 1 to 24 columns, without pieces. Any other breadth is refused, and leaves the page as it was.
-#[test]
-fn pages_open_at_1_to_24_columns(rt: HostRuntime) {
-    let mut page = Page::new();
     assert_eq!(rt; (page.breadth(), page.count()), (1, 0));
     for breadth in 1..=24 {
-        put_apart(&rt, &mut page, settings_of(&WIDTHS, &DEPTHS));
+        page.put(&Depth, settings_of(&WIDTHS, &DEPTHS), tables)?;
         for wrong in [0, 25, 255] {
             let before = (page.breadth(), 1);
             assert_eq!(rt; page.open(wrong), Err(Refusal::Breadth.into()));
@@ -52,6 +43,7 @@ fn pages_open_at_1_to_24_columns(rt: HostRuntime) {
         assert_eq!(rt; page.open(breadth), Ok(()));
         assert_eq!(rt; (page.breadth(), page.count()), (breadth, 0));
     }
+    Ok(())
 }
 
 // The settings that are refused, and at which of them. The number of settings is tested first, then all widths, then all amounts.
@@ -124,7 +116,7 @@ fn settings_are_tested_in_order(rt: HostRuntime) {
 
 // Tables of 95 places are refused before the settings are looked at, and a full page before the tables are.
 #[test]
-fn tables_are_tested_before_settings(rt: HostRuntime) {
+fn tables_are_tested_before_settings(rt: HostRuntime) -> Result<(), Fail> {
     let settings: [(&[u8], &[u16]); 4] = [
         (&[1], &[1]),
         (&[], &[]),
@@ -132,6 +124,10 @@ fn tables_are_tested_before_settings(rt: HostRuntime) {
         (&[1, 2], &[1, 1]),
     ];
     let mut page = Page::new();
+    let other_tables = &mut Tables {
+        widths: &mut [0; 96],
+        amounts: &mut [0; 96],
+    };
     for piece in 0..=12 {
         for (widths, amounts) in settings {
             for (wide, deep) in [(95, 96), (96, 95), (95, 95), (0, 96), (96, 0)] {
@@ -155,9 +151,10 @@ fn tables_are_tested_before_settings(rt: HostRuntime) {
             }
         }
         if piece < 12 {
-            put_apart(&rt, &mut page, settings_of(&[24], &[1]));
+            page.put(&Depth, settings_of(&[24], &[1]), other_tables)?;
         }
     }
+    Ok(())
 }
 
 // Twelve pieces, of 1 to 8 settings, get the numbers 0 to 11, and one more is refused.
@@ -196,7 +193,7 @@ fn twelve_pieces_fill_a_page(rt: HostRuntime) {
 
 // An amend looks for the piece first, then at the tables, then at the settings' number, widths and amounts. A refusal changes nothing.
 #[test]
-fn amends_are_refused_in_order(rt: HostRuntime) {
+fn amends_are_refused_in_order(rt: HostRuntime) -> Result<(), Fail> {
     // the pieces on the page, the piece to amend, and whether it is there
     let pages: [(u8, u8, bool); 9] = [
         (0, 0, false),
@@ -217,8 +214,12 @@ fn amends_are_refused_in_order(rt: HostRuntime) {
     ];
     for (pieces, piece, there) in pages {
         let mut page = Page::new();
+        let other_tables = &mut Tables {
+            widths: &mut [0; 96],
+            amounts: &mut [0; 96],
+        };
         for _ in 0..pieces {
-            put_apart(&rt, &mut page, settings_of(&[24], &[1]));
+            page.put(&Depth, settings_of(&[24], &[1]), other_tables)?;
         }
         for (widths, amounts, refusal, place) in settings {
             for (wide, deep) in [(95, 96), (96, 95), (0, 0), (96, 96)] {
@@ -244,6 +245,7 @@ fn amends_are_refused_in_order(rt: HostRuntime) {
             }
         }
     }
+    Ok(())
 }
 
 // Twelve pieces of 8 settings are amended to 1 to 8 others, which stand from place 8k on, and all other places stay.

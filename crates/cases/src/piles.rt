@@ -1,5 +1,5 @@
 // Layers over layers, in either order.
-ghost use Rattle.std.specs.Prelude.{min, max, nat_le, Some};
+ghost use Rattle.std.specs.Prelude.{◌≡◌, min, max, nat_le, Some};
 ghost use Rattle.std.proofs.Common.{rules};
 
 use measure::{Ceiling, Depth, Gutter, Measure};
@@ -32,23 +32,30 @@ impl Measure for Least {
     }
 }
 
+// A ceiling over a gutter, and a gutter over a ceiling.
+fn both_orders<M: Measure<Amount = u16> + Copy>(
+    m: M,
+    gap: u16,
+    limit: u16,
+) -> (Ceiling<Gutter<M>>, Gutter<Ceiling<M>>)
+    ensures ceiling { result.0 ≡ record { lower = record { lower = m; gap = gap }; limit = limit } }
+    ensures gutter { result.1 ≡ record { lower = record { lower = m; limit = limit }; gap = gap } }
+{
+    let ceiling_on_top = Ceiling {
+        lower: Gutter { lower: m, gap },
+        limit,
+    };
+    let gutter_on_top = Gutter {
+        lower: Ceiling { lower: m, limit },
+        gap,
+    };
+    (ceiling_on_top, gutter_on_top)
+}
+
 // With a gap of 9 and a limit of 5, a ceiling below the gutter refuses what the top part and the gap come to, before the lower part is seen.
 #[test]
 fn the_order_of_layers_counts(rt: HostRuntime) {
-    let ceiling_on_top = Ceiling {
-        lower: Gutter {
-            lower: Least,
-            gap: 9,
-        },
-        limit: 5,
-    };
-    let gutter_on_top = Gutter {
-        lower: Ceiling {
-            lower: Least,
-            limit: 5,
-        },
-        gap: 9,
-    };
+    let (ceiling_on_top, gutter_on_top) = both_orders(Least, 9, 5);
     let cases = [
         (7, 3, Some(3), None),
         (6, 5, Some(5), None),
@@ -65,20 +72,7 @@ fn the_order_of_layers_counts(rt: HostRuntime) {
 // Over lines, which only grow, a ceiling of 10 and a gutter of 3 give the same in either order.
 #[test]
 fn over_lines_either_order_gives_the_same(rt: HostRuntime) {
-    let ceiling_on_top = Ceiling {
-        lower: Gutter {
-            lower: Depth,
-            gap: 3,
-        },
-        limit: 10,
-    };
-    let gutter_on_top = Gutter {
-        lower: Ceiling {
-            lower: Depth,
-            limit: 10,
-        },
-        gap: 3,
-    };
+    let (ceiling_on_top, gutter_on_top) = both_orders(Depth, 3, 10);
     for a in 0..=11u16 {
         let cell = (1..=10).contains(&a).then_some(a);
         assert_eq!(rt; ceiling_on_top.cell(a), cell);

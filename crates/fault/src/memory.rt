@@ -1,4 +1,6 @@
 // Elements written over a part of lent memory.
+//
+// A memory and a place in it go through these calls by themselves: a `Writer` holds both, but it writes bytes, and these serve elements of any kind.
 ghost use Rattle.std.specs.Prelude.{◌≡◌, ◌+◌, ◌≤◌, length, nat_le};
 ghost use Rattle.fault.specs.Written.{overwrite, room_wanted, Written};
 

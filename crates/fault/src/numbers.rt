@@ -1,4 +1,4 @@
-// Decimal numbers, written behind a label into lent memory.
+// Decimal numbers, written behind a label of any bytes into lent memory; a `Writer` takes labels that are text.
 ghost use Rattle.std.specs.Prelude.{length};
 ghost use Rattle.fault.specs.Written.{labelled, Written};
 

@@ -1,5 +1,6 @@
 -- The pieces of cells, collected in a set.
-use Rattle.std.proofs.Common.{◌≡◌, ℕ, ◌+◌, ◌^◌, ◌<◌, ◌≤◌, true, false, cond, eqb, ◌⊎◌, List, [], ◌++◌, length, is_some, Some, None, Decides, Option, sym, refl, ap, ◌∙◌, inl, inr, arith}
+use Rattle.std.proofs.Common.{◌≡◌, ℕ, ◌+◌, ◌^◌, ◌<◌, ◌≤◌, Bool, true, false, not, cond, eqb, ◌⊎◌, List, [], ◌++◌, length, is_some, Some, None, Decides, Option, sym, refl, ap, ◌∙◌, inl, inr, arith}
+use Rattle.std.specs.Bool.{then_some}
 use Rattle.std.proofs.lemmas.List.{nil_from_length}
 use Rattle.std.proofs.lemmas.Nat.Bits.{bit_at_above}
 use Rattle.std.proofs.lemmas.Bool.{eqb-true, eqb-false, eq-eqb, ne_eqb, lt-ltb, cases_lt}
@@ -21,7 +22,7 @@ module _ (set piece : ℕ) (kind : Kind) (is : kind ≡ Cell) where
   here k = ap (λ v. in_cell k v piece) is
 
   -- a piece that is there already is counted twice
-  pub again : set < 2 ^ 16 → eqb (bit piece set) 1 ≡ true → Collected (λ k. bit k set + in_cell k kind piece) None
+  again : set < 2 ^ 16 → eqb (bit piece set) 1 ≡ true → Collected (λ k. bit k set + in_cell k kind piece) None
   again small there = (piece, within, two)
     where
       one : bit piece set ≡ 1
@@ -34,7 +35,7 @@ module _ (set piece : ℕ) (kind : Kind) (is : kind ≡ Cell) where
       two = let e : in_cell piece kind piece ≡ 1 = here piece ∙ rw (eq-eqb piece piece refl) in omega (arith, one)
 
   -- a new one is added
-  pub added : eqb (bit piece set) 1 ≡ false → Collected (λ k. bit k set + in_cell k kind piece) (Some (with_piece piece set))
+  added : eqb (bit piece set) 1 ≡ false → Collected (λ k. bit k set + in_cell k kind piece) (Some (with_piece piece set))
   added new k b = by (cases_lt piece 16)
     where
       none : bit piece set ≡ 0
@@ -48,6 +49,11 @@ module _ (set piece : ℕ) (kind : Kind) (is : kind ≡ Cell) where
           let w : with_piece piece set ≡ set = grind (arith, nat_tests) in
           let n : in_cell k kind piece ≡ 0 = here k ∙ rw (ne_eqb k piece (λ e. omega arith)) in
           ap (bit k) w ∙ omega arith
+
+  -- it is taken exactly if it is not there
+  pub taken : set < 2 ^ 16 → (there : Bool) → there ≡ eqb (bit piece set) 1 → Collected (λ k. bit k set + in_cell k kind piece) (then_some (not there) (with_piece piece set))
+  taken small true e = again small (sym e)
+  taken small false e = added (sym e)
 
 -- a layout that begins at the first entry, with no piece twice
 spells : (es : List Entry) (set : ℕ) → Begins es (Some 0) → Collected (λ k. cell_count k es) (Some set) → (x : Layout) × Spells es x

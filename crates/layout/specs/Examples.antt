@@ -31,7 +31,7 @@ wide_depth = refl
 abbrev Once : ℕ → Type 0
 Once k = cells k wide ≡ 1
 
-once : (k : ℕ) → k < 3 → Once k
+once : (k : ℕ) → k < 3 → cells k wide ≡ 1
 once = below_more Once 2 (below_more Once 1 (below_more Once 0 (below_none Once) refl) refl) refl
 
 of_all_three : LayoutOf sample wide

@@ -17,6 +17,7 @@ pub enum Kind {
 }
 
 // A cell or a cut of a layout. The entries of a cut are those of its left or upper part, those of the other part, and then its own.
+// That each entry has a kind, a piece and a setting is a rule: callers may hand in a cut with a piece, and are told that it is none.
 #[derive(Clone, Copy, PartialEq, Eq, Debug)]
 pub struct Entry {
     pub kind: Kind,

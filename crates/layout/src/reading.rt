@@ -44,13 +44,10 @@ fn last_layout(entries: &[Entry]) -> Option<usize>
 fn with_entry(set: u16, entry: Entry) -> Option<u16>
     ensures { Collected (λ k. bit k set + in_cell k entry.kind entry.piece) result }
 {
-    if entry.kind != Kind::Cell {
-        return Some(set);
+    match entry.kind {
+        Kind::Cell => (!holds(set, entry.piece)).then_some(with_piece(set, entry.piece)),
+        Kind::Cut(_) => Some(set),
     }
-    if holds(set, entry.piece) {
-        return None;
-    }
-    Some(with_piece(set, entry.piece))
 }
 
 // The set of the pieces in cells; nothing where a piece is in two.

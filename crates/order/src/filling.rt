@@ -87,6 +87,7 @@ fn put_pieces<M: Filed>(
 // Checks the file, then puts its pieces one by one on the page, their amounts made from the filed pairs, and answers how many it put.
 // It stops at the first refusal: of the check; for want of 8 amounts of scratch; or of a put, which is then said of the piece's
 // number in the file. The pieces put so far stay. What the scratch holds afterwards is unsettled.
+// File, page, tables and scratch belong to the caller, each by itself; a struct of them would be made for this call alone.
 pub fn fill<M: Filed>(
     m: &M,
     file: &[u8],

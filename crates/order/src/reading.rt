@@ -9,7 +9,7 @@ use crate::head::Figures;
 use crate::reader::{Reader, Size};
 use fault::{Fault, Refusal};
 
-// The number in two bytes, the low one first.
+// The number in two bytes, the low one first. The pairs of a piece are read by it too, where no reader goes.
 pub(crate) fn pair_at(file: &[u8], at: usize) -> u16
     requires { at + 2 ≤ length file.now }
     ensures { result ≡ number_at Pair file.now at }
@@ -27,17 +27,6 @@ impl Size {
             Size::Pair => 2,
         }
     }
-
-    // The number of this size at a place.
-    fn number_at(self, file: &[u8], at: usize) -> u16
-        requires { at + taken self ≤ length file.now }
-        ensures { result ≡ number_at self file.now at }
-    {
-        match self {
-            Size::Byte => u16::from(file[at]),
-            Size::Pair => pair_at(file, at),
-        }
-    }
 }
 
 impl<'a> Reader<'a> {
@@ -53,6 +42,17 @@ impl<'a> Reader<'a> {
         }
     }
 
+    // The number of this size that begins at its place.
+    fn number(self, size: Size) -> u16
+        requires { self.at + taken size ≤ length self.file.now }
+        ensures { result ≡ number_at size self.entry.file.now self.entry.at }
+    {
+        match size {
+            Size::Byte => u16::from(self.file[self.at]),
+            Size::Pair => pair_at(self.file, self.at),
+        }
+    }
+
     // The figure that is due, from `low` to `high`, and the reader behind it.
     fn figure(self, size: Size, low: u16, high: u16) -> Result<(u16, Reader<'a>), Fault>
         ensures { Due size low high self.entry result }
@@ -60,7 +60,7 @@ impl<'a> Reader<'a> {
         if self.file.len() - self.at < size.bytes() {
             return Err(Fault::at(Refusal::FileEndsEarly, self.file.len()));
         }
-        let figure = size.number_at(self.file, self.at);
+        let figure = self.number(size);
         if !(low..=high).contains(&figure) {
             return Err(Fault::at(Refusal::FigureOutOfRange, self.at));
         }

@@ -15,6 +15,7 @@ pub const TABLE_PLACES: usize = 96;
 
 // The settings of all pieces of a page, those of piece k from place 8k on: all widths in one table, all amounts in the other. That these
 // are two parallel tables of fixed size is a rule of the page. The page's record is not in it: callers keep and copy that by itself.
+// A call that is lent a `&mut` of it promises `SameTables`, that it left the same two references there; the type cannot say so of what was before.
 #[derive(Drop)]
 pub struct Tables<'a, A> {
     pub widths: &'a mut [u8],
