@@ -1,6 +1,7 @@
 // Filed measures: amounts made from filed pairs, and amounts written.
 ghost use Rattle.std.specs.Prelude.{◌≡◌};
 
+use crate::own::{Least, Same};
 use fault::{Refusal, Writer};
 use measure::{Ceiling, Depth, Filed, Gutter, Marked, MarkedDepth};
 use std::process::Abort;
@@ -54,6 +55,7 @@ fn amounts_come_from_filed_pairs(rt: HostRuntime) {
         let both = MarkedDepth { marks, depth };
         assert_eq!(rt; Marked.amount(marks, depth), both);
         assert_eq!(rt; layered(Marked).amount(marks, depth), both);
+        assert_eq!(rt; Same { lower: Least }.amount(marks, depth), depth);
     }
 }
 
@@ -68,6 +70,8 @@ fn amounts_are_written_in_decimal(rt: HostRuntime) {
     ];
     writes(&rt, &Depth, &lines);
     writes(&rt, &layered(Depth), &lines);
+    writes(&rt, &Least, &lines);
+    writes(&rt, &Same { lower: Least }, &lines);
     let marks: [(u16, u16, &[u8; 18], usize); 4] = [
         (0, 0, b"..0+0.............", 5),
         (10, 9, b"..10+9............", 6),
@@ -76,6 +80,7 @@ fn amounts_are_written_in_decimal(rt: HostRuntime) {
     ];
     writes(&rt, &Marked, &marks);
     writes(&rt, &layered(Marked), &marks);
+    writes(&rt, &layered(Same { lower: Marked }), &marks);
 }
 
 #[test]
@@ -84,4 +89,5 @@ fn amounts_want_16_bytes(rt: HostRuntime) {
     wants_16_bytes(&rt, &Marked);
     wants_16_bytes(&rt, &layered(Depth));
     wants_16_bytes(&rt, &layered(Marked));
+    wants_16_bytes(&rt, &Same { lower: Least });
 }

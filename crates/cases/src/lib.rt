@@ -16,6 +16,8 @@ mod measures;
 #[cfg(test)]
 mod orders;
 #[cfg(test)]
+mod own;
+#[cfg(test)]
 mod pages;
 #[cfg(test)]
 mod piles;

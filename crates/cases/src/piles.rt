@@ -1,36 +1,8 @@
 // Layers over layers, in either order.
-ghost use Rattle.std.specs.Prelude.{◌≡◌, min, max, nat_le, Some};
-ghost use Rattle.std.proofs.Common.{rules};
+ghost use Rattle.std.specs.Prelude.{◌≡◌};
 
+use crate::own::Least;
 use measure::{Ceiling, Depth, Gutter, Measure};
-
-// A measure of this test's own: parts above each other count as the lesser of them.
-#[derive(Clone, Copy)]
-struct Least;
-
-impl Measure for Least {
-    type Amount = u16;
-
-    ghost functions = { λ _. record { no_worse = nat_le; cell = λ a. Some a; beside = λ a b. Some (max a b); above = λ a b. Some (min a b) } };
-
-    ghost lawful = { Prim.search rules };
-
-    fn no_worse(&self, a: u16, b: u16) -> bool {
-        a <= b
-    }
-
-    fn cell(&self, a: u16) -> Option<u16> {
-        Some(a)
-    }
-
-    fn beside(&self, a: u16, b: u16) -> Option<u16> {
-        Some(a.max(b))
-    }
-
-    fn above(&self, a: u16, b: u16) -> Option<u16> {
-        Some(a.min(b))
-    }
-}
 
 // A ceiling over a gutter, and a gutter over a ceiling.
 fn both_orders<M: Measure<Amount = u16> + Copy>(
