@@ -4,11 +4,10 @@ ghost use Rattle.page.specs.Tables.{LaidIn, SameTables, held_in};
 ghost use Rattle.page.specs.Puts.{Put};
 ghost use Rattle.page.specs.Rules.{GoesOn};
 
-pub use crate::tables::{PIECE_PLACES, TABLE_PLACES};
-
 use super::Page;
 use crate::settings::Settings;
 use crate::tables::Tables;
+pub use crate::tables::{PIECE_PLACES, TABLE_PLACES};
 use fault::{Fault, Refusal};
 use measure::Measure;
 
