@@ -20,7 +20,7 @@ pub record Filled (k : ℕ) (w : Writer) (xs : List ℕ) (v : Writer) : Type 0 w
   pub behind : v.at ≡ w.at + length xs
 
 -- the bytes that a label and a number of at most k digits take
-labelled_short : (k : ℕ) (label : List ℕ) (n : ℕ) → 0 < k → n < 10 ^ k → n < 2 ^ 64 → length (labelled label n) ≤ length label + k
+pub labelled_short : (k : ℕ) (label : List ℕ) (n : ℕ) → 0 < k → n < 10 ^ k → n < 2 ^ 64 → length (labelled label n) ≤ length label + k
 labelled_short k label n p h f = omega (arith, length-append label (decimal n), length-decimal-le k n p h f)
 
 module _ (room : ℕ) (w : Writer) (fits : w.at + room ≤ length w.out.now) where

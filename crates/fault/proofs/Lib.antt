@@ -1,2 +1,3 @@
 pub mod Overwrite
+pub mod Digits
 pub mod Filled

@@ -12,13 +12,13 @@ pub bit_small : (k s : ℕ) → bit k s ≤ 1
 bit_small k s = omega (arith, bit_at-lt s k)
 
 -- both of two sets with no piece in common
-bit_sum : (a b : ℕ) → ((k : ℕ) → bit k a + bit k b ≤ 1) → (k : ℕ) → bit k (a + b) ≡ bit k a + bit k b
+pub bit_sum : (a b : ℕ) → ((k : ℕ) → bit k a + bit k b ≤ 1) → (k : ℕ) → bit k (a + b) ≡ bit k a + bit k b
 bit_sum a b apart k =
     let none : bit_and a b ≡ 0 = same_from_bits (bit_and a b) 0 (λ j. omega (arith, bit_at_and a b j, bit_at-zero j, apart j)) in
     ap (bit k) (sym (or_disjoint a b none)) ∙ omega (arith, bit_at_or a b k, apart k)
 
 -- the set of one piece
-bit_of_pow : (j k : ℕ) → bit j (2 ^ k) ≡ cond (eqb j k) 1 0
+pub bit_of_pow : (j k : ℕ) → bit j (2 ^ k) ≡ cond (eqb j k) 1 0
 bit_of_pow j k = elim (cases_eq j k) [ inl e ↦ ap (λ n. bit n (2 ^ k)) e ∙ bit_at-pow_same k ∙ rw (eq-eqb j k e) | inr ne ↦ bit_at-pow_other k j ne ∙ rw (ne_eqb j k ne) ]
 
 -- one more piece

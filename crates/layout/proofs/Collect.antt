@@ -22,7 +22,7 @@ module _ (set piece : ℕ) (kind : Kind) (is : kind ≡ Cell) where
   here k = ap (λ v. in_cell k v piece) is
 
   -- a piece that is there already is counted twice
-  again : set < 2 ^ 16 → eqb (bit piece set) 1 ≡ true → Collected (λ k. bit k set + in_cell k kind piece) None
+  pub again : set < 2 ^ 16 → eqb (bit piece set) 1 ≡ true → Collected (λ k. bit k set + in_cell k kind piece) None
   again small there = (piece, within, two)
     where
       one : bit piece set ≡ 1
@@ -35,7 +35,7 @@ module _ (set piece : ℕ) (kind : Kind) (is : kind ≡ Cell) where
       two = let e : in_cell piece kind piece ≡ 1 = here piece ∙ rw (eq-eqb piece piece refl) in omega (arith, one)
 
   -- a new one is added
-  added : eqb (bit piece set) 1 ≡ false → Collected (λ k. bit k set + in_cell k kind piece) (Some (with_piece piece set))
+  pub added : eqb (bit piece set) 1 ≡ false → Collected (λ k. bit k set + in_cell k kind piece) (Some (with_piece piece set))
   added new k b = by (cases_lt piece 16)
     where
       none : bit piece set ≡ 0

@@ -4,11 +4,11 @@ ghost use Rattle.layout.specs.Entries.{Agree, Alike};
 
 use crate::entry::Entry;
 
-// Whether kind and piece of two entries agree; settings are not looked at.
+// Whether kind and piece of two entries agree; settings are not looked at. The piece first: one byte tells most entries apart.
 fn agree(x: Entry, y: Entry) -> bool
     ensures { Decides result (Agree x y) }
 {
-    x.kind == y.kind && x.piece == y.piece
+    x.piece == y.piece && x.kind == y.kind
 }
 
 // Whether two lists of entries have one length, and kind and piece agree at every position.

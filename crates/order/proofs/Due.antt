@@ -75,7 +75,7 @@ module _ (f g : List ℕ) (same : g ≡ f) (next : Format) (settings i at : ℕ)
   abbrev left : Format
   left = pairs (settings - (i + 1)) next
 
-  pairs_turn : all ≡ run (pairs 1 left) f at
+  pub pairs_turn : all ≡ run (pairs 1 left) f at
   pairs_turn = let e : settings - i ≡ suc (settings - (i + 1)) = omega arith in sofar ∙ ap (λ n. run (pairs n next) f at) e
 
   pub pairs_go : (to : ℕ) → ((rest : Format) → run (pairs 1 rest) g at ≡ run rest g to) → all ≡ run left f to

@@ -162,21 +162,37 @@ pub record Parts (body : List ℕ) (o : Order) (n : ℕ) : Type 0 where
   pub wide : take (length (drop n body) / 5) (drop n body) ≡ widths_of (settings o)
   pub deep : drop (length (drop n body) / 5) (drop n body) ≡ pair_bytes (settings o)
 
+-- the figures behind the head, as bytes
+split_body : (o : Order) → flat_map spelt (map count_figure o.pieces ++ (map width_figure (settings o) ++ flat_map pair_figures (settings o))) ≡ map (λ (p : List FiledSetting). length p) o.pieces ++ (widths_of (settings o) ++ pair_bytes (settings o))
+split_body o =
+    let ps = o.pieces in
+    let ss = settings o in
+    flat_map-append spelt (map count_figure ps) (map width_figure ss ++ flat_map pair_figures ss)
+    ∙ (λ i. count_bytes ps i ++ flat_map-append spelt (map width_figure ss) (flat_map pair_figures ss) i)
+    ∙ ap (λ l. map (λ (p : List FiledSetting). length p) ps ++ (l ++ pair_bytes ss)) (width_bytes ss)
+
+-- a good file has 5 + n + 5t bytes, where its order has n pieces and t settings in all
+pub file_length : (file : List ℕ) (o : Order) → Reads file o → length file ≡ 5 + length o.pieces + 5 * length (settings o)
+file_length file o r =
+    let ps = o.pieces in
+    let ss = settings o in
+    let cs = map (λ (p : List FiledSetting). length p) ps in
+    let body = map count_figure ps ++ (map width_figure ss ++ flat_map pair_figures ss) in
+    let cl : length cs ≡ length ps = length-map ps (λ (p : List FiledSetting). length p) in
+    let wl : length (widths_of ss) ≡ length ss = length-map ss (λ (s : FiledSetting). s.width) in
+    let long : length file ≡ 5 + length (flat_map spelt body) = ap length (sym r.spells) ∙ omega arith in
+    omega (arith, long, ap length (split_body o), length-append cs (widths_of ss ++ pair_bytes ss), length-append (widths_of ss) (pair_bytes ss), cl, wl, length_pairs ss)
+
 pub parts : (file : List ℕ) (o : Order) (n : ℕ) → Reads file o → length o.pieces ≡ n → Parts (drop 5 file) o n
 parts file o n r e =
     let ps = o.pieces in
     let ss = settings o in
-    let body = map count_figure ps ++ (map width_figure ss ++ flat_map pair_figures ss) in
     let cs = map (λ (p : List FiledSetting). length p) ps in
-    let split : flat_map spelt body ≡ cs ++ (widths_of ss ++ pair_bytes ss) =
-    flat_map-append spelt (map count_figure ps) (map width_figure ss ++ flat_map pair_figures ss)
-    ∙ (λ i. count_bytes ps i ++ flat_map-append spelt (map width_figure ss) (flat_map pair_figures ss) i)
-    ∙ ap (λ l. cs ++ (l ++ pair_bytes ss)) (width_bytes ss) in
     let cl : length cs ≡ n = length-map ps (λ (p : List FiledSetting). length p) ∙ e in
     let wl : length (widths_of ss) ≡ length ss = length-map ss (λ (s : FiledSetting). s.width) in
-    let tail : drop 5 file ≡ cs ++ (widths_of ss ++ pair_bytes ss) = ap (drop 5) (sym r.spells) ∙ split in
+    let tail : drop 5 file ≡ cs ++ (widths_of ss ++ pair_bytes ss) = ap (drop 5) (sym r.spells) ∙ split_body o in
     let rest : drop n (drop 5 file) ≡ widths_of ss ++ pair_bytes ss = ap (drop n) tail ∙ drop_at cs (widths_of ss ++ pair_bytes ss) n cl in
-    let long : length (drop n (drop 5 file)) ≡ 5 * length ss = omega (arith, ap length rest, length-append (widths_of ss) (pair_bytes ss), wl, length_pairs ss) in
+    let long : length (drop n (drop 5 file)) ≡ 5 * length ss = omega (arith, file_length file o r, length-drop 5 file, length-drop n (drop 5 file), e) in
     let fifth : length (widths_of ss) ≡ length (drop n (drop 5 file)) / 5 = omega (arith, long, wl) in
     record {
       some = omega (arith, ap length tail, length-append cs (widths_of ss ++ pair_bytes ss), cl);

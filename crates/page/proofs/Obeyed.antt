@@ -50,7 +50,7 @@ module _ {A : Type 0} (m : Functions A) where
   paired_at (w ∷ ws) (a ∷ xs) (suc i) s e = let r = paired_at ws xs i s e in (omega arith, r.1)
 
   -- settings that passed the tests obey the rules
-  rules_tested : (ws : List ℕ) (xs : List A) → tested m ws xs ≡ Ok tt → Rules m (paired ws xs)
+  pub rules_tested : (ws : List ℕ) (xs : List A) → tested m ws xs ≡ Ok tt → Rules m (paired ws xs)
   rules_tested ws xs e =
       let p = good m ws xs e in
       let long = length-paired ws xs p.same in
@@ -110,7 +110,7 @@ module _ {A : Type 0} (m : Functions A) where
       }
 
   -- a run that goes on obeys the rules
-  goes_on : (h after : Held A) → (Made m h → Made m after) → GoesOn m h after
+  pub goes_on : (h after : Held A) → (Made m h → Made m after) → GoesOn m h after
   goes_on h after step made = (step made, pages_obey after (step made))
 
   -- a refused call leaves all as it was

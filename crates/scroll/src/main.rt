@@ -19,6 +19,8 @@ use std::process::ExitCode;
 const FILE_ROOM: usize = 512;
 
 fn main(rt: HostRuntime) -> anyhow::Result<ExitCode> {
+    // one place more than is read, so that reading asks for no memory
+    let mut file = Vec::with_capacity(rt.alloc(), FILE_ROOM + 1)?;
     let mut widths = vec![in rt.alloc(); 0u8; TABLE_PLACES]?;
     let mut amounts = vec![in rt.alloc(); 0u16; TABLE_PLACES]?;
     let mut tables = Tables {
@@ -30,7 +32,7 @@ fn main(rt: HostRuntime) -> anyhow::Result<ExitCode> {
     let mut line = [0u8; LINE_ROOM];
     let mut page = Page::new();
 
-    let file = read_order(&mut rt.stdin(), FILE_ROOM, rt.alloc())?;
+    read_order(&mut rt.stdin(), FILE_ROOM, &mut file)?;
     let said = reply(&file, &mut page, &mut tables, &mut scratch, &mut line);
     let (Ok(end) | Err(end)) = said;
     let mut out = rt.stdout();

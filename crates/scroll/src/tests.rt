@@ -49,9 +49,15 @@ fn says_what_stands_or_why_not(rt: HostRuntime) {
 fn joins_short_reads(rt: HostRuntime) -> Result<(), Fail> {
     let front: &[u8] = b"abc";
     let back: &[u8] = b"defgh";
-    let whole = read_order(&mut front.chain(back), 10, rt.alloc())?;
+    let mut whole = Vec::with_capacity(rt.alloc(), 11)?;
+    read_order(&mut front.chain(back), 10, &mut whole)?;
     assert_eq!(rt; whole.as_slice(), b"abcdefgh".as_slice());
-    let small = read_order(&mut front.chain(back), 5, rt.alloc())?;
+    let mut small = Vec::with_capacity(rt.alloc(), 6)?;
+    read_order(&mut front.chain(back), 5, &mut small)?;
     assert_eq!(rt; small.as_slice(), b"abcde".as_slice());
+    // what was there stays, and the room for one byte more was enough
+    read_order(&mut front.chain(back), 1, &mut whole)?;
+    assert_eq!(rt; whole.as_slice(), b"abcdefgha".as_slice());
+    assert_eq!(rt; (whole.capacity(), small.capacity()), (11, 6));
     Ok(())
 }

@@ -16,6 +16,7 @@ impl Page {
     // which do not rest on piece k. The new settings are kept in the two tables from place 8k on.
     // Refused, in this order: there is no piece k; a table is shorter than 96 places; the settings' number; a width; an amount.
     // A refusal leaves the page and the tables as they were. Where the calls made the page with these tables, it obeys the rules of pieces then too.
+    #[inline]
     #[tactic(auto, using(crate::proofs::Obeyed::stays))]
     pub fn amend<M: Measure>(
         &mut self,

@@ -1,19 +1,25 @@
-use Rattle.std.proofs.Common.{◌≡◌, ◌+◌, ◌++◌, length, decimal, ap, ◌∙◌, arith}
+use Rattle.std.proofs.Common.{◌≡◌, ◌+◌, length, decimal, ◌∙◌, arith}
 use Rattle.std.proofs.lemmas.List.{length-append}
+use Rattle.std.proofs.lemmas.Fmt.{length-decimal-le}
 use Rattle.fault.specs.Written.{overwrite, labelled}
 use Rattle.fault.proofs.Overwrite.{wrote, overwrite_more}
+use Rattle.fault.proofs.Digits.{overwrite_to}
 use Rattle.fault.proofs.Filled.{room_there}
 use Rattle.fault.proofs.numbers.write_labelled.Goals as goal
+
+pub overflow_add-label : goal.overflow_add-label
+overflow_add-label c = omega (arith, c.digits-count.ensures, length-decimal-le 20 c.args.n (omega arith) (omega arith) (omega arith))
 
 pub returns : goal.returns
 returns c =
     let label = c.args.label.now in
-    let digits = c.as_bytes-digits.result.now in
+    let digits = decimal c.args.n in
     let out = c.args.out.now in
-    let is : digits ≡ decimal c.args.n = c.as_bytes-digits.ensures.value ∙ c.format.ensures.text in
-    let fits = room_there (length out) c.args.at (length label + length digits) _ c.want_room.ensures c.in_ok-want_room.was in
-    let long = length-append label (decimal c.args.n) in
-    let n : length digits ≡ length (decimal c.args.n) = ap length is in
+    let many : c.digits-count.result ≡ length digits = c.digits-count.ensures in
+    let fits = room_there (length out) c.args.at (length label + c.digits-count.result) _ c.want_room.ensures c.in_ok-want_room.was in
+    let long = length-append label digits in
+    let from : c.write_digits.result ≡ c.args.at + length label = omega (arith, c.write_digits.ensures.start) in
+    let over = overwrite_to c.write_digits.result (c.args.at + length label + c.digits-count.result) digits c.lay_over.new.out c.write_digits.new.buf c.write_digits.ensures.start c.write_digits.ensures.written c.write_digits.ensures.before in
     wrote (length (labelled label c.args.n)) (labelled label c.args.n) out c.args.at _ _ (omega arith) (omega arith)
-    (c.lay_over-2.ensures ∙ ap (overwrite (c.args.at + length label) digits) c.lay_over.ensures ∙ overwrite_more c.args.at label digits out (omega arith) ∙ ap (λ ds. overwrite c.args.at (label ++ ds) out) is)
+    (over ∙ (λ i. overwrite (from i) digits (c.lay_over.ensures i)) ∙ overwrite_more c.args.at label digits out (omega arith))
     (omega arith)
